@@ -1,0 +1,10 @@
+pub mod BytesLaws
+pub mod CopyLaws
+pub mod IntegerLaws
+pub mod LebLaws
+mod Reading
+mod Shortest
+mod TextChunks
+pub mod TextLaws
+mod TextRows
+mod Vectors

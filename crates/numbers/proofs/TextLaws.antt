@@ -1,0 +1,202 @@
+-- Laws of `text`: bytes below 128 are text, the table and the core document agree, and a text after a text is one. Then examples.
+use Prim.Native.Nat.{ℕ, zero, suc, _+_, _-_, _*_, _^_, _≤_, _<_}
+use native.Mathlib.Omega.{arith}
+use mathlib.Core.Path.{_≡_, refl, _∙_}
+use mathlib.Core.Bool.{Bool, true, false, cond}
+use mathlib.Core.List.{List, [], _∷_, _++_, append-assoc, map}
+use mathlib.Core.Logic.{_⊎_, inl, inr, ⊎-elim}
+use lib.Dec.{T, ltb, eqb·suc-zero}
+use lib.ListN.{length}
+use Rattle.numbers.specs.Names.{Later, Char, one, two, three, four, Name, none, more}
+use Rattle.numbers.specs.Text.{Row, table, among, firstIn, step, onward, rest, text, Below}
+use Rattle.numbers.specs.declared.text.Step.the-variants.{Next, Bad}
+use Rattle.numbers.proofs.TextChunks.{side}
+use Rattle.numbers.proofs.TextRows.{among-in, among-low, among-high, ends, nth, found}
+
+-- ---- bytes below 128
+
+ascii-rest : (low high : ℕ) (s : List ℕ) → Below 0x80 s 0 (length s) → rest 0 low high s ≡ true
+unfolding rest step
+ascii-rest low high [] all = refl
+ascii-rest low high (b ∷ s) all =
+    rw (found 0 b tt tt (omega arith) (omega (arith, all 0 (omega arith) (omega arith))))
+    (ascii-rest 0x80 0xbf s (λ k p q. all (suc k) (omega arith) (omega arith)))
+
+pub ascii-text : (s : List ℕ) → Below 0x80 s 0 (length s) → text s ≡ true
+unfolding text
+ascii-text s all = ascii-rest 0x80 0xbf s all
+
+-- ---- a name of the core document is text
+
+-- a first byte of the table's row k
+row-rest : (k b : ℕ) (s : List ℕ) → T (ltb k (length table)) → T (ends k table (nth k .from)) → nth k .from ≤ b → b ≤ nth k .to
+    → rest 0 0x80 0xbf (b ∷ s) ≡ rest (nth k .follow) (nth k .low) (nth k .high) s
+unfolding rest step
+row-rest k b s l t p q = rw (found k b l t p q)
+
+-- a byte after the first
+later-rest : (need low high b : ℕ) (s : List ℕ) → low ≤ b → b ≤ high → rest (suc need) low high (b ∷ s) ≡ rest need 0x80 0xbf s
+unfolding rest step
+later-rest need low high b s p q = rw (among-in low high b p q)
+
+-- the bytes of a character of two, three or four from the second on
+tail₂ : (low high b₂ : ℕ) (s : List ℕ) → low ≤ b₂ → b₂ ≤ high → rest 1 low high (b₂ ∷ s) ≡ rest 0 0x80 0xbf s
+tail₂ low high b₂ s p q = later-rest 0 low high b₂ s p q
+
+tail₃ : (low high b₂ b₃ : ℕ) (s : List ℕ) → low ≤ b₂ → b₂ ≤ high → Later b₃ → rest 2 low high (b₂ ∷ b₃ ∷ s) ≡ rest 0 0x80 0xbf s
+tail₃ low high b₂ b₃ s p q r = later-rest 1 low high b₂ (b₃ ∷ s) p q ∙ tail₂ 0x80 0xbf b₃ s (omega arith) (omega arith)
+
+tail₄ : (low high b₂ b₃ b₄ : ℕ) (s : List ℕ) → low ≤ b₂ → b₂ ≤ high → Later b₃ → Later b₄
+    → rest 3 low high (b₂ ∷ b₃ ∷ b₄ ∷ s) ≡ rest 0 0x80 0xbf s
+tail₄ low high b₂ b₃ b₄ s p q r t =
+    later-rest 2 low high b₂ (b₃ ∷ b₄ ∷ s) p q ∙ tail₃ 0x80 0xbf b₃ b₄ s (omega arith) (omega arith) t
+
+-- a character: the first byte tells its row, and its number bounds the second byte
+char-rest : {c : ℕ} {u : List ℕ} → Char c u → (s : List ℕ) → rest 0 0x80 0xbf (u ++ s) ≡ rest 0 0x80 0xbf s
+char-rest (one {c} {b} h e) s = row-rest 0 b s tt tt (omega arith) (omega arith)
+char-rest (two {c} {b₁} {b₂} h e p q) s =
+    row-rest 1 b₁ (b₂ ∷ s) tt tt (omega arith) (omega arith) ∙ tail₂ 0x80 0xbf b₂ s (omega arith) (omega arith)
+char-rest (three {c} {b₁} {b₂} {b₃} h e p q r) s =
+    let low : 0x800 ≤ c = ⊎-elim (λ w. omega arith) (λ w. omega arith) h in
+    let high : c < 0x10000 = ⊎-elim (λ w. omega arith) (λ w. omega arith) h in
+    ⊎-elim
+    (λ e0. row-rest 2 b₁ (b₂ ∷ b₃ ∷ s) tt tt (omega arith) (omega arith) ∙ tail₃ 0xa0 0xbf b₂ b₃ s (omega arith) (omega arith) r)
+    (λ e1. ⊎-elim
+    (λ ec. row-rest 3 b₁ (b₂ ∷ b₃ ∷ s) tt tt (omega arith) (omega arith) ∙ tail₃ 0x80 0xbf b₂ b₃ s (omega arith) (omega arith) r)
+    (λ ed. ⊎-elim
+    (λ ed'. row-rest 4 b₁ (b₂ ∷ b₃ ∷ s) tt tt (omega arith) (omega arith)
+    ∙ tail₃ 0x80 0x9f b₂ b₃ s (omega arith) (⊎-elim (λ w. omega arith) (λ w. omega arith) h) r)
+    (λ ee. row-rest 5 b₁ (b₂ ∷ b₃ ∷ s) tt tt (omega arith) (omega arith) ∙ tail₃ 0x80 0xbf b₂ b₃ s (omega arith) (omega arith) r)
+    (side b₁ 0xee))
+    (side b₁ 0xed))
+    (side b₁ 0xe1)
+char-rest (four {c} {b₁} {b₂} {b₃} {b₄} h e p q r t) s =
+    ⊎-elim
+    (λ f0. row-rest 6 b₁ (b₂ ∷ b₃ ∷ b₄ ∷ s) tt tt (omega arith) (omega arith) ∙ tail₄ 0x90 0xbf b₂ b₃ b₄ s (omega arith) (omega arith) r t)
+    (λ f1. ⊎-elim
+    (λ f3. row-rest 7 b₁ (b₂ ∷ b₃ ∷ b₄ ∷ s) tt tt (omega arith) (omega arith) ∙ tail₄ 0x80 0xbf b₂ b₃ b₄ s (omega arith) (omega arith) r t)
+    (λ f4. row-rest 8 b₁ (b₂ ∷ b₃ ∷ b₄ ∷ s) tt tt (omega arith) (omega arith) ∙ tail₄ 0x80 0x8f b₂ b₃ b₄ s (omega arith) (omega arith) r t)
+    (side b₁ 0xf4))
+    (side b₁ 0xf1)
+
+pub text-complete : (s : List ℕ) → Name s → text s ≡ true
+unfolding text rest
+text-complete [] none = refl
+text-complete _ (more {c} {u} {s} ch n) = char-rest ch s ∙ text-complete s n
+
+-- ---- text is a name of the core document
+
+-- `need` bytes, the first of them in low..high, and then a name
+data Rest : ℕ → ℕ → ℕ → List ℕ → Type 0 where
+  done : {low high : ℕ} {s : List ℕ} → Name s → Rest 0 low high s
+  next : {need low high b : ℕ} {s : List ℕ} → low ≤ b → b ≤ high → Rest need 0x80 0xbf s → Rest (suc need) low high (b ∷ s)
+
+-- what a row lets through is a character
+abbrev Right : Row → Type 0
+Right r = (b : ℕ) (s : List ℕ) → r .from ≤ b → b ≤ r .to → Rest (r .follow) (r .low) (r .high) s → Name (b ∷ s)
+
+right₁ : Right (nth 0)
+right₁ b s p q (done n) = more (one {c = b} (omega arith) refl) n
+
+right₂ : Right (nth 1)
+right₂ b₁ _ p q (next {b = b₂} l h (done n)) =
+    more (two {c = 2 ^ 6 * (b₁ - 0xc0) + (b₂ - 0x80)} (omega arith, omega arith) refl (omega arith) (omega arith, omega arith)) n
+
+-- the numbers of a character of three bytes, and of four
+abbrev In₃ : ℕ → Type 0
+In₃ c = ((0x800 ≤ c) × (c < 0xd800)) ⊎ ((0xe000 ≤ c) × (c < 0x10000))
+
+abbrev In₄ : ℕ → Type 0
+In₄ c = (0x10000 ≤ c) × (c < 0x110000)
+
+right₃ : (low high b₁ : ℕ) (s : List ℕ) → 0xe0 ≤ b₁ → 0x80 ≤ low → high < 0xc0
+    → ((b₂ b₃ : ℕ) → low ≤ b₂ → b₂ ≤ high → Later b₃ → In₃ (2 ^ 12 * (b₁ - 0xe0) + 2 ^ 6 * (b₂ - 0x80) + (b₃ - 0x80)))
+    → Rest 2 low high s → Name (b₁ ∷ s)
+right₃ low high b₁ _ p q r within (next {b = b₂} l h (next {b = b₃} l₃ h₃ (done n))) =
+    more (three (within b₂ b₃ l h (l₃, omega arith)) refl p (omega arith, omega arith) (l₃, omega arith)) n
+
+right₄ : (low high b₁ : ℕ) (s : List ℕ) → 0xf0 ≤ b₁ → 0x80 ≤ low → high < 0xc0
+    → ((b₂ b₃ b₄ : ℕ) → low ≤ b₂ → b₂ ≤ high → Later b₃ → Later b₄
+    → In₄ (2 ^ 18 * (b₁ - 0xf0) + 2 ^ 12 * (b₂ - 0x80) + 2 ^ 6 * (b₃ - 0x80) + (b₄ - 0x80)))
+    → Rest 3 low high s → Name (b₁ ∷ s)
+right₄ low high b₁ _ p q r within (next {b = b₂} l h (next {b = b₃} l₃ h₃ (next {b = b₄} l₄ h₄ (done n)))) =
+    more (four (within b₂ b₃ b₄ l h (l₃, omega arith) (l₄, omega arith)) refl p (omega arith, omega arith) (l₃, omega arith) (l₄, omega arith)) n
+
+-- each row of the table is right
+infixr 5 _by_also_
+data Rights : List Row → Type 0 where
+  no-more : Rights []
+  _by_also_ : (r : Row) {rs : List Row} → Right r → Rights rs → Rights (r ∷ rs)
+
+rights : Rights table
+rights =
+    nth 0 by right₁
+    also nth 1 by right₂
+    also nth 2 by (λ b s p q. right₃ 0xa0 0xbf b s (omega arith) (omega arith) (omega arith) (λ b₂ b₃ l h r. inl (omega arith, omega arith)))
+    also nth 3 by (λ b s p q. right₃ 0x80 0xbf b s (omega arith) (omega arith) (omega arith) (λ b₂ b₃ l h r. inl (omega arith, omega arith)))
+    also nth 4 by (λ b s p q. right₃ 0x80 0x9f b s (omega arith) (omega arith) (omega arith) (λ b₂ b₃ l h r. inl (omega arith, omega arith)))
+    also nth 5 by (λ b s p q. right₃ 0x80 0xbf b s (omega arith) (omega arith) (omega arith) (λ b₂ b₃ l h r. inr (omega arith, omega arith)))
+    also nth 6 by (λ b s p q. right₄ 0x90 0xbf b s (omega arith) (omega arith) (omega arith) (λ b₂ b₃ b₄ l h r t. (omega arith, omega arith)))
+    also nth 7 by (λ b s p q. right₄ 0x80 0xbf b s (omega arith) (omega arith) (omega arith) (λ b₂ b₃ b₄ l h r t. (omega arith, omega arith)))
+    also nth 8 by (λ b s p q. right₄ 0x80 0x8f b s (omega arith) (omega arith) (omega arith) (λ b₂ b₃ b₄ l h r t. (omega arith, omega arith)))
+    also no-more
+
+-- a first byte, row by row
+first-name : (rs : List Row) → Rights rs → (b : ℕ) (s : List ℕ) → ((n l h : ℕ) → rest n l h s ≡ true → Rest n l h s)
+    → onward (firstIn rs b) (λ n l h. rest n l h s) ≡ true → Name (b ∷ s)
+first-name [] no-more b s sound e = let z : _≡_ {A = ℕ} 0 1 = cc in absurd (omega arith)
+first-name (r ∷ rs) (_ by x also xs) b s sound e = go (among (r .from) (r .to) b) refl e (λ f. first-name rs xs b s sound f)
+  where
+    go : (t : Bool) → among (r .from) (r .to) b ≡ t
+        → onward (cond t (Next (r .follow) (r .low) (r .high)) (firstIn rs b)) (λ n l h. rest n l h s) ≡ true
+        → (onward (firstIn rs b) (λ n l h. rest n l h s) ≡ true → Name (b ∷ s)) → Name (b ∷ s)
+    go true a f later = x b s (among-low (r .from) (r .to) b a) (among-high (r .from) (r .to) b a) (sound (r .follow) (r .low) (r .high) f)
+    go false a f later = later f
+
+rest-sound : (need low high : ℕ) (s : List ℕ) → rest need low high s ≡ true → Rest need low high s
+unfolding rest step
+rest-sound zero low high [] e = done none
+rest-sound (suc need) low high [] e = let z : _≡_ {A = ℕ} 0 1 = cc (eqb·suc-zero need) in absurd (omega arith)
+rest-sound zero low high (b ∷ s) e = done (first-name table rights b s (λ n l h f. rest-sound n l h s f) e)
+rest-sound (suc need) low high (b ∷ s) e = go (among low high b) refl e (λ f. rest-sound need 0x80 0xbf s f)
+  where
+    go : (t : Bool) → among low high b ≡ t → onward (cond t (Next need 0x80 0xbf) Bad) (λ n l h. rest n l h s) ≡ true
+        → (rest need 0x80 0xbf s ≡ true → Rest need 0x80 0xbf s) → Rest (suc need) low high (b ∷ s)
+    go true a f later = next (among-low low high b a) (among-high low high b a) (later f)
+    go false a f later = let z : _≡_ {A = ℕ} 0 1 = cc in absurd (omega arith)
+
+pub text-sound : (s : List ℕ) → text s ≡ true → Name s
+unfolding text
+text-sound s e = name (rest-sound 0 0x80 0xbf s e)
+  where
+    name : Rest 0 0x80 0xbf s → Name s
+    name (done n) = n
+
+-- ---- a text after a text
+
+name-append : {a b : List ℕ} → Name a → Name b → Name (a ++ b)
+name-append none m = m
+name-append (more ch n) m = rw append-assoc (more ch (name-append n m))
+
+pub text-append : (a b : List ℕ) → text a ≡ true → text b ≡ true → text (a ++ b) ≡ true
+text-append a b p q = text-complete (a ++ b) (name-append (text-sound a p) (text-sound b q))
+
+-- ---- examples
+
+-- bytes, and whether they are text: a surrogate, two forms that are not the shortest, the first number past the last character and
+-- the last character, a character cut short and whole, and no byte
+abbrev pub examples : List (List ℕ × Bool)
+examples =
+    (0xed ∷ 0xa0 ∷ 0x80 ∷ [], false)
+    ∷ (0xc0 ∷ 0x80 ∷ [], false)
+    ∷ (0xe0 ∷ 0x80 ∷ 0x80 ∷ [], false)
+    ∷ (0xf4 ∷ 0x90 ∷ 0x80 ∷ 0x80 ∷ [], false)
+    ∷ (0xf4 ∷ 0x8f ∷ 0xbf ∷ 0xbf ∷ [], true)
+    ∷ (0xc3 ∷ [], false)
+    ∷ (0xc3 ∷ 0xa9 ∷ [], true)
+    ∷ ([], true)
+    ∷ []
+
+pub text-examples : map (λ e. text (e .0)) examples ≡ map (λ e. e .1) examples
+unfolding text rest step
+text-examples = refl

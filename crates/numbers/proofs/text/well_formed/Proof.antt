@@ -1,0 +1,75 @@
+-- `numbers::text::well_formed` meets its contract. The loop's invariant: the name is text if what is left of it is what has to follow.
+-- A turn is `turn-next` or `turn-bad`, and `turns-end` is the end.
+use Prim.Native.Nat.{_-_}
+use mathlib.Core.Path.{_≡_, refl, sym, _∙_}
+use borrow.Author.Needs.{needs}
+use native.Mathlib.Omega.{arith}
+use lib.ListN.{length, drop}
+use Rattle.numbers.specs.Text.{text, rest}
+use Rattle.numbers.proofs.TextRows.{turn-bad, turn-next, turns-end}
+use Rattle.numbers.proofs.text.well_formed.Statement.{statement}
+use Rattle.numbers.proofs.text.well_formed.Tie as tie
+
+abbrev Inv-loop : tie.InvT-loop
+Inv-loop name need₀ low₀ high₀ i₀ need low high i = text name ≡ rest need low high (drop i name)
+
+abbrev μ-loop : tie.MeasureT-loop
+μ-loop name need₀ low₀ high₀ i₀ need low high i = length name - i
+
+loop-holds : tie.Need-loop-holds Inv-loop μ-loop
+unfolding text
+loop-holds c = refl
+
+shared-slice-read-after : tie.Need-shared-slice-read-after Inv-loop μ-loop
+shared-slice-read-after c = omega arith
+
+after-requires : tie.Need-after-requires Inv-loop μ-loop
+after-requires c κs = search needs
+
+enum-known-n : tie.Need-enum-known-n Inv-loop μ-loop
+enum-known-n c = search needs
+
+enum-told : tie.Need-enum-told Inv-loop μ-loop
+enum-told c = search needs
+
+returns : tie.Need-returns Inv-loop μ-loop
+returns c =
+    let called = c .before .before in
+    let turn = called .before .before in
+    let v = turn .before .loop in
+    sym (v .inv ∙ turn-bad _ _ _ (turn .before .before .before .args .name .now) _ (turn .loop-test .taken)
+    (sym (called .after .ensures) ∙ c .enum-told .given .1))
+
+add-i : tie.Need-add-i Inv-loop μ-loop
+add-i c = omega arith
+
+loop-less : tie.Need-loop-less Inv-loop μ-loop
+loop-less c = omega arith
+
+loop-again : tie.Need-loop-again Inv-loop μ-loop
+loop-again c =
+    let called = c .before .before .before in
+    let turn = called .before .before in
+    let v = turn .before .loop in
+    v .inv ∙ turn-next _ _ _ (turn .before .before .before .args .name .now) _ _ _ _ (turn .loop-test .taken)
+    (sym (called .after .ensures) ∙ c .before .n .given .1)
+
+returns-2 : tie.Need-returns-2 Inv-loop μ-loop
+returns-2 c = sym (c .before .loop .inv ∙ turns-end _ _ _ (c .before .before .before .args .name .now) _ (c .loop-test .left))
+
+pub well-formed-spec : {M : Type 1} → statement M
+well-formed-spec =
+    tie.close
+    (tie.spec
+    Inv-loop
+    μ-loop
+    loop-holds
+    shared-slice-read-after
+    after-requires
+    enum-known-n
+    enum-told
+    returns
+    add-i
+    loop-less
+    loop-again
+    returns-2)

@@ -1,0 +1,6 @@
+pub mod Bytes
+pub mod Integers
+pub mod Leb
+pub mod Names
+pub mod Numbers
+pub mod Text
