@@ -1,0 +1,39 @@
+-- Each item of the bench is written as its bytes, by computation.
+use Prim.Native.Nat.{ℕ}
+use mathlib.Core.Path.{_≡_, refl}
+use mathlib.Core.Bool.{Bool, true, false}
+use mathlib.Core.List.{List, [], _∷_}
+use lib.ListN.{length}
+use Rattle.numbers.specs.Leb.{bytesOf}
+use Rattle.numbers.specs.Text.{text, rest, step}
+use Rattle.fields.specs.declared.Answer.the-variants.{Size}
+use Rattle.fields.specs.Binary.{pick, name, primvaltype, valtype, optional, resultlist, functype, flag, slotAt, slotsAt, slots, externname, typebound, externdesc, bytes}
+use Rattle.fields.specs.Judge.{wide, value, optionalValue, named, optionalName, reference, flaw, judge}
+use Rattle.fields.specs.Row.{measuredRow, rowBytes, writeRow}
+use Rattle.fields.specs.Shape.{repeated, seq, widths, rowWidth}
+use Rattle.fields.specs.Table.{shapeIn}
+use Rattle.fields.specs.View.{view}
+use Rattle.fields.specs.Walk.{walk, outs}
+use Rattle.fields.specs.Write.{left, sized, measured, stored}
+use Rattle.types.specs.Write.{writeType}
+use Rattle.imports.specs.Write.{writeImport}
+use Rattle.claims.specs.Bench.{Item, bench}
+
+-- a buffer as long as the bytes
+abbrev pub blank : List ℕ → List ℕ
+blank [] = []
+blank (b ∷ bs) = 0 ∷ blank bs
+
+-- the writer of the item's family puts exactly the bytes into a buffer of their size
+abbrev pub AsWritten : Item → Type 0
+AsWritten i =
+    pick (i .import) (writeImport (i .row) (i .pool) (blank (i .bytes)) 0) (writeType (i .row) (i .pool) (blank (i .bytes)) 0)
+    ≡ left (Size (length (i .bytes))) (i .bytes)
+
+abbrev pub All : List Item → Type 0
+All [] = Unit {0}
+All (i ∷ is) = AsWritten i × All is
+
+pub bench-is-written : All bench
+unfolding bytesOf text rest step name primvaltype valtype optional resultlist functype flag slotAt slotsAt slots externname typebound externdesc bytes wide value optionalValue named optionalName reference flaw judge measuredRow rowBytes writeRow repeated seq widths rowWidth shapeIn view walk outs sized measured stored writeType writeImport
+bench-is-written = (refl, (refl, (refl, (refl, (refl, (refl, (refl, (refl, (refl, (refl, (refl, (refl, (refl, tt)))))))))))))

@@ -1,0 +1,13 @@
+pub mod AnswerLaws
+pub mod ByteLaws
+pub mod FlawLaws
+pub mod JudgedLaws
+pub mod PutLaws
+pub mod RowLaws
+pub mod RunLaws
+pub mod SizeLaws
+pub mod TableLaws
+pub mod TableRows
+pub mod WholeLaws
+pub mod WidthLaws
+pub mod WroteLaws

@@ -1,0 +1,111 @@
+-- What holds of every row that is accepted: its size is the length of its bytes, its walk reaches its end, and no size is too big.
+use Prim.Native.Nat.{ℕ, zero, suc, _+_, _*_, _^_, _≤_, _<_}
+use native.Mathlib.Nat.{mul-le-mul-left}
+use native.Mathlib.Omega.{arith}
+use mathlib.Core.Path.{_≡_, refl, sym, ap, _∙_, subst}
+use mathlib.Core.Bool.{Bool, true, false}
+use mathlib.Core.List.{List, [], _∷_, _++_}
+use lib.Dec.{eqb, ltb}
+use lib.ListN.{length, drop, length-append}
+use Rattle.fields.specs.declared.Field.{Field}
+use Rattle.fields.specs.declared.Field.the-variants as field
+use Rattle.fields.specs.declared.Refusal.the-variants as refusal
+use Rattle.fields.specs.declared.Leaf.{Leaf}
+use Rattle.fields.specs.declared.Leaf.the-variants.{Fine, Bad}
+use Rattle.fields.specs.declared.Answer.the-variants.{Size, Refused}
+use Rattle.fields.specs.declared.Found.{Found}
+use Rattle.fields.specs.declared.Found.the-variants.{Is, Not}
+use Rattle.fields.specs.declared.Shape.{Shape}
+use Rattle.fields.specs.Binary.{pick, word}
+use Rattle.fields.specs.Judge.{wide, judge}
+use Rattle.fields.specs.Run.{along, makes, Under}
+use Rattle.fields.specs.Row.{measuredFound, measuredRow, rowBytes}
+use Rattle.fields.specs.Shape.{opening, group, closing, repeated, widths, rowWidth}
+use Rattle.fields.specs.Write.{bytesAt, judged, written, measured}
+use Rattle.fields.proofs.AnswerLaws.{Sized, measured-sized, sized-stays}
+use Rattle.fields.proofs.PutLaws.{countedFields, later, allFields, row-groups, judged-along, shape-written}
+use Rattle.fields.proofs.RunLaws.{along-ends, along-bound}
+use Rattle.fields.proofs.WidthLaws.{widths-append, repeated-widths, repeated-length}
+
+-- a row that is accepted has a shape, and a size by it
+pub record Accepted (found : Found) (row pool : List ℕ) (size : ℕ) : Type 0 where
+  pub shape : Shape
+  pub is : found ≡ Is shape
+  pub sized : Sized shape row 1 pool size
+
+pub accepted : (found : Found) (row pool : List ℕ) (size : ℕ) → measuredRow found row pool ≡ Size size → Accepted found row pool size
+unfolding measuredRow
+accepted found row pool size e = rows (ltb 16384 (length row)) (ltb 65536 (length pool)) (eqb (length row) 0) e
+  where
+    has : (f : Found) → measuredFound f row pool ≡ Size size → Accepted f row pool size
+    has (Is s) e = record { shape = s; is = refl; sized = measured-sized s row 1 pool refl size e }
+    has Not e = let z : _≡_ {A = ℕ} 0 1 = cc in absurd (omega arith)
+
+    rows : (a b c : Bool)
+        → pick a (Refused refusal.Limit 0) (pick b (Refused refusal.Limit 0) (pick c (Refused refusal.Row 0) (measuredFound found row pool))) ≡ Size size
+        → Accepted found row pool size
+    rows true b c e = let z : _≡_ {A = ℕ} 0 1 = cc in absurd (omega arith)
+    rows false true c e = let z : _≡_ {A = ℕ} 0 1 = cc in absurd (omega arith)
+    rows false false true e = let z : _≡_ {A = ℕ} 0 1 = cc in absurd (omega arith)
+    rows false false false e = has found e
+
+-- all fields of a row have as many words as its width says, and are few where a group has a word
+all-widths : (s : Shape) (row : List ℕ) (start : ℕ) → start + widths (allFields s row start) ≡ rowWidth s row start
+unfolding rowWidth widths wide
+all-widths s row start =
+    let at = start + widths (opening s) in
+    let a = widths-append (opening s) (later s row at) in
+    omega (arith, both (s .counted))
+  where
+    at : ℕ
+    at = start + widths (opening s)
+
+    both : (b : Bool) → widths (pick b (countedFields s row at) (closing s))
+        ≡ pick b (1 + word row at * widths (group s)) 0 + widths (closing s)
+    both true =
+        omega (arith, widths-append (repeated (word row at) (group s)) (closing s), repeated-widths (group s) (word row at))
+    both false = omega arith
+
+few-fields : (s : Shape) (row : List ℕ) (start : ℕ) → (s .counted ≡ true → 1 ≤ widths (group s)) → rowWidth s row start ≡ length row
+    → length row ≤ 16384 → length (allFields s row start) ≤ 32774
+few-fields s row start worded width short = go (s .counted) refl
+  where
+    at : ℕ
+    at = start + widths (opening s)
+
+    go : (b : Bool) → s .counted ≡ b → suc (suc (suc (suc (length (pick b (countedFields s row at) (closing s)))))) ≤ 32774
+    go true e =
+        let n = word row at in
+        let w = worded e in
+        let g = row-groups s row start e in
+        let m : n * 1 ≤ n * widths (group s) = mul-le-mul-left n w in
+        omega (arith, length-append (repeated n (group s)) (closing s), repeated-length (group s) n)
+    go false e = omega arith
+
+module _ {s : Shape} {row : List ℕ} {start : ℕ} {pool : List ℕ} {size : ℕ} (k : Sized s row start pool size) where
+  all : along (judge pool) (allFields s row start) (drop start row) start 0 ≡ Fine (k .end) size
+  all = sym (judged-along s pool row start) ∙ k .judges
+
+  -- the size is the length of the bytes
+  pub size-is-length : size ≡ length (written s pool row start)
+  size-is-length =
+      let bs : List ℕ = makes (judge pool) (bytesAt pool) (allFields s row start) start (drop start row) in
+      let n : size ≡ 0 + length bs = along-ends pool (allFields s row start) (drop start row) start 0 (k .end) size all .1 in
+      let room : 0 + size ≤ length bs = omega arith in
+      let m : length bs ≡ length (written s pool row start) = ap length (sym (shape-written s pool row start 0 bs (sized-stays k 0 (length bs) room))) in
+      omega arith
+
+  -- the walk reaches the row's end
+  pub reaches-end : k .end ≡ length row
+  reaches-end =
+      along-ends pool (allFields s row start) (drop start row) start 0 (k .end) size all .0 ∙ all-widths s row start ∙ k .width
+
+  -- no size is too big, where a group has a word
+  pub never-too-big : (s .counted ≡ true → 1 ≤ widths (group s)) → size < 2 ^ 32
+  never-too-big worded =
+      let fs = allFields s row start in
+      let u : Under (Fine (k .end) size) (start + widths fs) (0 + (length fs + 32770 * widths fs)) =
+      subst (λ l. Under l (start + widths fs) (0 + (length fs + 32770 * widths fs))) all
+      (along-bound pool fs (drop start row) start 0 (k .small)) in
+      let h = u .1 in
+      omega (arith, all-widths s row start, k .width, k .short, few-fields s row start worded (k .width) (k .short))

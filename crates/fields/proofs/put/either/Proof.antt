@@ -1,0 +1,13 @@
+-- `either` picks by the test that the definition has.
+use borrow.Author.Tests.{eq-eqb, ne-eqb}
+use Rattle.fields.proofs.put.either.Statement.{statement}
+use Rattle.fields.proofs.put.either.Tie as tie
+
+returns : tie.Need-returns
+returns c = simp (eq-eqb _ _ (c .if1 .taken))
+
+returns-2 : tie.Need-returns-2
+returns-2 c = simp (ne-eqb _ _ (c .if1 .left))
+
+pub either-spec : {M : Type 1} → statement M
+either-spec = tie.close (tie.spec returns returns-2)

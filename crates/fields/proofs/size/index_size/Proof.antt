@@ -1,0 +1,25 @@
+-- The size is that of the word read at i; `size-bounds` keeps it at most five.
+use native.Mathlib.Omega.{arith}
+use borrow.Author.Needs.{needs}
+use Rattle.numbers.proofs.LebLaws.{size-bounds}
+use Rattle.fields.proofs.size.index_size.Statement.{statement}
+use Rattle.fields.proofs.size.index_size.Tie as tie
+
+word-at-requires : tie.Need-word-at-requires
+word-at-requires c κs = search needs
+
+unsigned-size-requires : tie.Need-unsigned-size-requires
+unsigned-size-requires c κs = search needs
+
+returns : tie.Need-returns
+returns c = (
+  simp (c .unsigned-size .ensures, c .before .word-at .ensures),
+  omega (
+    arith,
+    c .unsigned-size .ensures,
+    size-bounds 128 (c .before .word-at .result),
+  ),
+)
+
+pub index-size-spec : {M : Type 1} → statement M
+index-size-spec = tie.close (tie.spec word-at-requires unsigned-size-requires returns)

@@ -1,0 +1,22 @@
+-- The word read at i decides its flag.
+use native.Mathlib.Omega.{arith}
+use mathlib.Core.Path.{sym}
+use borrow.Author.Needs.{needs}
+use borrow.Author.Tests.{eq-eqb, ne-eqb}
+use Rattle.fields.specs.Binary.{flag}
+use Rattle.fields.proofs.size.present_at.Statement.{statement}
+use Rattle.fields.proofs.size.present_at.Tie as tie
+
+word-at-requires : tie.Need-word-at-requires
+word-at-requires c κs = search needs
+
+returns : tie.Need-returns
+unfolding flag
+returns c = (simp (sym (c .before .word-at .ensures), eq-eqb _ _ (c .if1 .taken)), omega arith)
+
+returns-2 : tie.Need-returns-2
+unfolding flag
+returns-2 c = (simp (sym (c .before .word-at .ensures), ne-eqb _ _ (c .if1 .left)), omega arith)
+
+pub present-at-spec : {M : Type 1} → statement M
+present-at-spec = tie.close (tie.spec word-at-requires returns returns-2)

@@ -1,0 +1,45 @@
+-- The tag read at i picks one byte or the bytes of an s33, which `size-bounds` keeps at most five.
+use native.Mathlib.Omega.{arith}
+use mathlib.Core.Path.{sym}
+use borrow.Author.Needs.{needs}
+use borrow.Author.Tests.{eq-eqb, ne-eqb}
+use Rattle.numbers.proofs.LebLaws.{size-bounds}
+use Rattle.fields.proofs.size.value_size.Statement.{statement}
+use Rattle.fields.proofs.size.value_size.Tie as tie
+
+word-at-requires : tie.Need-word-at-requires
+word-at-requires c κs = search needs
+
+returns : tie.Need-returns
+returns c = (simp (sym (c .before .word-at .ensures), eq-eqb _ _ (c .if1 .taken)), omega arith)
+
+add-word-at : tie.Need-add-word-at
+add-word-at c = search needs
+
+word-at-requires-2 : tie.Need-word-at-requires-2
+word-at-requires-2 c κs = search needs
+
+signed-size-requires : tie.Need-signed-size-requires
+signed-size-requires c κs = search needs
+
+returns-2 : tie.Need-returns-2
+returns-2 c = (
+  simp (
+    sym (c .before .before .before .word-at .ensures),
+    ne-eqb _ _ (c .before .before .if1 .left),
+    c .signed-size .ensures,
+    c .before .word-at2 .ensures,
+  ),
+  omega (arith, c .signed-size .ensures, size-bounds 64 (c .before .word-at2 .result)),
+)
+
+pub value-size-spec : {M : Type 1} → statement M
+value-size-spec =
+    tie.close
+    (tie.spec
+    word-at-requires
+    returns
+    add-word-at
+    word-at-requires-2
+    signed-size-requires
+    returns-2)

@@ -1,0 +1,10 @@
+pub mod Binary
+pub mod Judge
+pub mod Row
+pub mod Run
+pub mod Shape
+pub mod Size
+pub mod Table
+pub mod View
+pub mod Walk
+pub mod Write

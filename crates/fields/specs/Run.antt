@@ -1,0 +1,44 @@
+-- A walk over a list of fields, as a loop makes it, and what storing bytes leaves.
+use mathlib.Core.Path.{_≡_}
+use mathlib.Core.List.{List, [], _∷_, _++_}
+use Prim.Native.Nat.{ℕ, _+_, _≤_}
+use lib.ListN.{length, drop}
+use lib.Seq.{sets}
+use Rattle.fields.specs.declared.Field.{Field}
+use Rattle.fields.specs.declared.Leaf.{Leaf}
+use Rattle.fields.specs.declared.Leaf.the-variants.{Fine, Bad}
+use Rattle.fields.specs.Walk.{next, took}
+
+-- the fields from `at` on, with `made` elements made so far
+unfoldable pub along : (Field → List ℕ → Leaf) → List Field → List ℕ → ℕ → ℕ → Leaf
+along L [] xs at made = Fine at made
+along L (f ∷ fs) xs at made = next (L f xs) (λ t m. along L fs (drop t xs) (at + t) (made + m)) at
+
+-- what they make
+unfoldable pub makes : (Field → List ℕ → Leaf) → (Field → ℕ → List ℕ → List ℕ) → List Field → ℕ → List ℕ → List ℕ
+makes L B [] at xs = []
+makes L B (f ∷ fs) at xs = B f at xs ++ makes L B fs (at + took (L f xs)) (drop (took (L f xs)) xs)
+
+-- what follows a walk
+abbrev pub after : Leaf → (ℕ → ℕ → Leaf) → Leaf
+after (Fine at made) k = k at made
+after (Bad w j) k = Bad w j
+
+-- the walk reaches its end, and what it makes ends within n; the same where it is made from `to` on
+abbrev pub Room : Leaf → ℕ → Type 0
+Room (Fine at made) n = made ≤ n
+Room (Bad w j) n = ⊥
+
+abbrev pub Stays : Leaf → ℕ → ℕ → Type 0
+Stays (Fine at made) to n = to + made ≤ n
+Stays (Bad w j) to n = ⊥
+
+-- a walk that ends, ends at a or before, with b elements made at most
+abbrev pub Under : Leaf → ℕ → ℕ → Type 0
+Under (Fine at made) a b = (at ≤ a) × (made ≤ b)
+Under (Bad w j) a b = Unit {0}
+
+-- `new` is `old` with the bytes stored from `at` on, and `next` is the place past them
+pub record Wrote (old : List ℕ) (at : ℕ) (bs : List ℕ) (next : ℕ) (new : List ℕ) : Type 0 where
+  pub place : next ≡ at + length bs
+  pub content : new ≡ sets old at bs

@@ -1,0 +1,32 @@
+-- What the words of a field say beside a pool: words as they are, and names as their length and bytes, wherever they start.
+use mathlib.Core.List.{List, [], _∷_, _++_}
+use Prim.Native.Nat.{ℕ, _+_}
+use Rattle.fields.specs.declared.Field.{Field}
+use Rattle.fields.specs.declared.Field.the-variants as field
+use Rattle.fields.specs.Binary.{word, chars}
+
+-- N at i; (present, N) at i
+abbrev pub nameAt : List ℕ → List ℕ → ℕ → List ℕ
+nameAt pool ws i = word ws (i + 1) ∷ chars pool (word ws i) (word ws (i + 1))
+
+abbrev pub optionalNameAt : List ℕ → List ℕ → ℕ → List ℕ
+optionalNameAt pool ws i = word ws i ∷ nameAt pool ws (i + 1)
+
+unfoldable pub view : List ℕ → Field → List ℕ → List ℕ
+view pool field.Nothing ws = []
+view pool (field.Fixed b) ws = []
+view pool field.Primitive ws = word ws 0 ∷ []
+view pool field.Value ws = word ws 0 ∷ word ws 1 ∷ []
+view pool field.Optional ws = word ws 0 ∷ word ws 1 ∷ []
+view pool field.OptionalThenZero ws = word ws 0 ∷ word ws 1 ∷ []
+view pool field.Result ws = word ws 0 ∷ word ws 1 ∷ []
+view pool field.Name ws = nameAt pool ws 0
+view pool field.Index ws = word ws 0 ∷ []
+view pool field.Async ws = word ws 0 ∷ []
+view pool field.Flag ws = word ws 0 ∷ []
+view pool field.Rep ws = word ws 0 ∷ []
+view pool field.OptionalIndex ws = word ws 0 ∷ word ws 1 ∷ []
+view pool field.Choice ws = word ws 0 ∷ word ws 1 ∷ []
+view pool field.ExternName ws =
+    nameAt pool ws 0 ++ (optionalNameAt pool ws 2 ++ (optionalNameAt pool ws 5 ++ optionalNameAt pool ws 8))
+view pool field.Reference ws = word ws 0 ∷ word ws 1 ∷ word ws 2 ∷ []

@@ -1,0 +1,126 @@
+// Fields of a row: each judged and put, and the walk over the fields of a shape that serves every kind.
+mod judge;
+mod put;
+pub mod row;
+mod size;
+mod walk;
+pub mod write;
+
+pub use row::kind_of;
+pub use row::many_of;
+pub use row::measure_row;
+pub use row::two_of;
+pub use row::write_row;
+pub use write::measure_shape;
+pub use write::write_shape;
+
+// One field of a row, with its words and its bytes.
+pub enum Field {
+    // No word and no byte.
+    Nothing,
+    // A byte that stands for no word.
+    Fixed(u8),
+    // A word p below 14: its byte.
+    Primitive,
+    // V: a primitive's byte, or a type index as an s33.
+    Value,
+    // O: 00 where absent, else 01 and the V.
+    Optional,
+    // O, and then 00.
+    OptionalThenZero,
+    // O: 01 00 where absent, else 00 and the V.
+    Result,
+    // N: the length and the bytes.
+    Name,
+    // A number as a u32.
+    Index,
+    // A word below 2: 40 or 43.
+    Async,
+    // A word below 2: 00 or 01.
+    Flag,
+    // A word below 2: 7f or 7e.
+    Rep,
+    // Present and index: 00, or 01 and the index.
+    OptionalIndex,
+    // A canonical option: its byte k, and the index where k has one.
+    Choice,
+    // A name and three of (present, N).
+    ExternName,
+    // What is imported: three words.
+    Reference,
+}
+
+// The fields of a kind in order: lead, zero, first and second; where counted, a number n and n times one and two; then last.
+pub struct Shape {
+    pub lead: Field,
+    pub zero: Field,
+    pub first: Field,
+    pub second: Field,
+    pub counted: bool,
+    pub one: Field,
+    pub two: Field,
+    pub last: Field,
+}
+
+// The shape of a kind.
+pub enum Found {
+    Is(Shape),
+    // There is no such kind.
+    Not,
+}
+
+// Why something is refused, by document 01's names and in the order of its numbers, from 1 on.
+pub enum Refusal {
+    // A number on the wall is passed, or a state is none.
+    Limit,
+    // No such kind, or another section's family.
+    Kind,
+    // The row is empty, or not as long as kind and count need.
+    Row,
+    // A tag, flag, primitive, representation, option or unused word outside its list.
+    Tag,
+    // A name that ends past the pool.
+    Range,
+    // A name that is not UTF-8.
+    Text,
+    // A size that passes 4,294,967,295.
+    TooBig,
+    // Output or row too small.
+    Room,
+    // A step out of turn, or an entry still open.
+    Order,
+    // A row or an opening at the largest count.
+    Count,
+    // The input ends first.
+    Cut,
+    // A byte that cannot stand there.
+    Code,
+    // No number of 32 bits in the shortest form.
+    Number,
+    // A form above the grade.
+    Newer,
+    // A sheet of another version, without a row, or with broken framing.
+    Sheet,
+}
+
+// Whether the words of a field are right.
+pub enum Flaw {
+    // All are.
+    Right,
+    // The first that is not, and why.
+    Wrong(Refusal, usize),
+}
+
+// What stands at a place: so much is taken, and so much is made of it; or what is wrong, and where.
+pub enum Leaf {
+    Fine(usize, usize),
+    Bad(Refusal, usize),
+}
+
+// What a writing call answers.
+pub enum Answer {
+    // So many bytes were added.
+    Size(usize),
+    // Nothing was changed; the number is what document 01 returns with the refusal.
+    Refused(Refusal, usize),
+}

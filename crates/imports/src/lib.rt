@@ -1,0 +1,38 @@
+// Kind 17: the imports of the component binary document.
+use fields::Answer;
+use fields::Field;
+use fields::Found;
+ghost use mathlib.Core.Path.{_≡_};
+ghost use Rattle.fields.specs.Write.{left};
+ghost use Rattle.imports.specs.Write.{shapeOf, measuredImport, writeImport};
+
+// The shape of a kind: an extern name and a reference.
+fn shape_of(kind: u32) -> Found
+    ensures { λ r. ⌜ r ≡ shapeOf kind ⌝ }
+{
+    match kind {
+        17 => fields::two_of(
+            Field::Nothing,
+            Field::Nothing,
+            Field::ExternName,
+            Field::Reference,
+        ),
+        _ => Found::Not,
+    }
+}
+
+// The size of an import row, or why it is refused, room apart.
+pub fn measure(row: &[u32], pool: &[u8]) -> Answer
+    ensures { λ r. ⌜ r ≡ measuredImport (now (row .entry)) (now (pool .entry)) ⌝ }
+{
+    let shape = shape_of(fields::kind_of(row));
+    fields::measure_row(shape, row, pool)
+}
+
+// An import row judged beside its pool, and written into out from `at` on.
+pub fn write(row: &[u32], pool: &[u8], out: &mut [u8], at: usize) -> Answer
+    ensures { λ r. ⌜ left r (now (out .exit)) ≡ writeImport (now (row .entry)) (now (pool .entry)) (now (out .entry)) at ⌝ }
+{
+    let shape = shape_of(fields::kind_of(row));
+    fields::write_row(shape, row, pool, out, at)
+}
