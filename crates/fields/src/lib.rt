@@ -4,6 +4,7 @@ mod put;
 pub mod row;
 mod size;
 mod walk;
+pub mod wall;
 pub mod write;
 
 pub use row::kind_of;
@@ -11,6 +12,7 @@ pub use row::many_of;
 pub use row::measure_row;
 pub use row::two_of;
 pub use row::write_row;
+pub use wall::number_of;
 pub use write::measure_shape;
 pub use write::write_shape;
 
