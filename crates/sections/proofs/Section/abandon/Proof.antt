@@ -1,0 +1,91 @@
+-- `Section::abandon` meets its contract: an open entry of a sound state is counted (`count-positive`), so it can be taken back.
+use borrow.Author.Needs.{needs}
+use denote.Ref.{now}
+use mathlib.Core.Bool.{true}
+use mathlib.Core.Path.{_≡_, ap}
+use lib.ListN.{length}
+use Rattle.sections.specs.Section.{opened, sounds}
+use Rattle.sections.specs.Steps.{abandoning}
+use Rattle.sections.proofs.StepLaws.{failed, passed, count-positive}
+use Rattle.sections.proofs.Section.abandon.Statement.{statement}
+use Rattle.sections.proofs.Section.abandon.Tie as tie
+
+-- past the first test the state is sound
+sound-here : (c : tie.Else1) → let a = c .before .before .before .args in sounds (a .self) (length (now (a .body))) ≡ true
+sound-here c = passed (c .before .sound .ensures) (c .if1 .left)
+
+sound-requires : tie.Need-sound-requires
+sound-requires c κs = search needs
+
+refuse-requires : tie.Need-refuse-requires
+refuse-requires c κs = search needs
+
+returns : tie.Need-returns
+unfolding abandoning
+returns c = simp (c .refuse .ensures, failed (c .before .before .sound .ensures) (c .before .if1 .taken))
+
+enum-known-phase : tie.Need-enum-known-phase
+enum-known-phase c = search needs
+
+back-to-requires : tie.Need-back-to-requires
+back-to-requires c κs = count-positive _ _ (sound-here (c .before .before .before)) (ap opened (c .before .phase .given .1))
+
+enum-known-phase-2 : tie.Need-enum-known-phase-2
+enum-known-phase-2 c = search needs
+
+back-to-requires-2 : tie.Need-back-to-requires-2
+back-to-requires-2 c κs = count-positive _ _ (sound-here (c .before .before .before)) (ap opened (c .before .phase2 .given .1))
+
+enum-known-phase-3 : tie.Need-enum-known-phase-3
+enum-known-phase-3 c = search needs
+
+back-to-requires-3 : tie.Need-back-to-requires-3
+back-to-requires-3 c κs = count-positive _ _ (sound-here (c .before .before .before)) (ap opened (c .before .phase3 .given .1))
+
+enum-told : tie.Need-enum-told
+enum-told c = search needs
+
+refuse-requires-2 : tie.Need-refuse-requires-2
+refuse-requires-2 c κs = search needs
+
+returns-2 : tie.Need-returns-2
+unfolding abandoning
+returns-2 c =
+    let arm = c .before .before in
+    simp (c .back-to .ensures, sound-here (arm .before .before), arm .phase .given .1)
+
+returns-3 : tie.Need-returns-3
+unfolding abandoning
+returns-3 c =
+    let arm = c .before .before in
+    simp (c .back-to2 .ensures, sound-here (arm .before .before), arm .phase2 .given .1)
+
+returns-4 : tie.Need-returns-4
+unfolding abandoning
+returns-4 c =
+    let arm = c .before .before in
+    simp (c .back-to3 .ensures, sound-here (arm .before .before), arm .phase3 .given .1)
+
+returns-5 : tie.Need-returns-5
+unfolding abandoning
+returns-5 c = simp (c .refuse2 .ensures, sound-here (c .before .before .before), c .before .enum-told .given .1)
+
+pub abandon-spec : {M : Type 1} → statement M
+abandon-spec =
+    tie.close
+    (tie.spec
+    sound-requires
+    refuse-requires
+    returns
+    enum-known-phase
+    back-to-requires
+    enum-known-phase-2
+    back-to-requires-2
+    enum-known-phase-3
+    back-to-requires-3
+    enum-told
+    refuse-requires-2
+    returns-2
+    returns-3
+    returns-4
+    returns-5)

@@ -1,0 +1,78 @@
+-- `sections::put_frame` meets its contract: there is room for the whole, so its parts are stored one after the other (`frame-stored`).
+use borrow.Author.Needs.{needs}
+use denote.Ref.{now}
+use native.Mathlib.Omega.{arith}
+use mathlib.Core.Path.{ap, _∙_}
+use lib.ListN.{length, length-set}
+use lib.Seq.{length-sets}
+use Rattle.sections.proofs.FrameLaws.{stored-small, frame-stored}
+use Rattle.sections.proofs.put_frame.Statement.{statement}
+use Rattle.sections.proofs.put_frame.Tie as tie
+
+slice-write-out : tie.Need-slice-write-out
+slice-write-out c = search needs
+
+put-unsigned-requires : tie.Need-put-unsigned-requires
+put-unsigned-requires c κs = search needs
+
+stored-size-requires : tie.Need-stored-size-requires
+stored-size-requires c κs = search needs
+
+add-counted : tie.Need-add-counted
+add-counted c =
+    let put = c .before .before .before in
+    let a = put .before .before .before .before .args in
+    omega (arith, stored-small (a .size) _ _ (put .put-unsigned .ensures) (c .stored-size .ensures))
+
+put-unsigned-requires-2 : tie.Need-put-unsigned-requires-2
+put-unsigned-requires-2 c κs = search needs
+
+stored-size-requires-2 : tie.Need-stored-size-requires-2
+stored-size-requires-2 c κs = search needs
+
+add-start : tie.Need-add-start
+add-start c =
+    let second = c .before .before .before in
+    let counted = second .before .before in
+    let first = counted .before .before .before in
+    let a = first .before .before .before .before .args in
+    omega (
+      arith,
+      stored-small (a .size) _ _ (first .put-unsigned .ensures) (counted .stored-size .ensures),
+      stored-small (a .count) _ _ (second .put-unsigned2 .ensures) (c .stored-size2 .ensures),
+    )
+
+copy-requires : tie.Need-copy-requires
+copy-requires c κs = search needs
+
+returns : tie.Need-returns
+returns c =
+    let copied = c .before .before in
+    let started = copied .before .before in
+    let second = started .before .before .before in
+    let counted = second .before .before in
+    let first = counted .before .before .before in
+    let start = first .before .before .before .before in
+    let a = start .args in
+    frame-stored (a .family) (a .size) (a .count) (now (a .body)) (now (a .out)) (start .pre)
+    (first .put-unsigned .ensures) (counted .stored-size .ensures)
+    (second .put-unsigned2 .ensures) (started .stored-size2 .ensures)
+    (copied .copy .ensures)
+
+same-length : tie.Need-same-length
+same-length c = ap length (returns c) ∙ simp (length-sets, length-set)
+
+pub put-frame-spec : {M : Type 1} → statement M
+put-frame-spec =
+    tie.close
+    (tie.spec
+    slice-write-out
+    put-unsigned-requires
+    stored-size-requires
+    add-counted
+    put-unsigned-requires-2
+    stored-size-requires-2
+    add-start
+    copy-requires
+    same-length
+    returns)

@@ -1,0 +1,414 @@
+// A section that is being put together: a state by value over a lent body. Each step takes the state and hands the new one back with
+// its answer; a refusal changes neither state nor body.
+use fields::Answer;
+use fields::Field;
+use fields::Refusal;
+use fields::Shape;
+use numbers::Stored;
+ghost use mathlib.Core.Path.{_≡_};
+ghost use mathlib.Core.List.{_∷_, []};
+ghost use Prim.Native.Nat.{_<_, _≤_};
+ghost use lib.ListN.{length, take};
+ghost use lib.Seq.{sets};
+ghost use Rattle.numbers.specs.Numbers.{valueOf};
+ghost use Rattle.fields.specs.Table.{twoOf, manyOf};
+ghost use Rattle.fields.specs.Write.{left, writeShape};
+ghost use Rattle.sections.specs.Section.{fresh, knownFamily, holdsAt, sounds, opened, writeFamily};
+ghost use Rattle.sections.specs.Steps.{turned, refused, withdrawn, Fits, taken, rowing, opening, asyncing, paraming, resulting, abandoning};
+ghost use Rattle.sections.specs.Finish.{framed, framing, finishing};
+
+// Where an open function stands; the number is the place in the body where it starts.
+pub enum Phase {
+    // No function is open.
+    Closed,
+    // Nothing of it is written.
+    Opened(usize),
+    // Its first byte is written.
+    Asynced(usize),
+    // Its parameters are written too.
+    Parametered(usize),
+}
+
+pub struct Section {
+    // 7 types, 8 canonicals, 10 imports.
+    pub family: u32,
+    // How many bytes of the body are written.
+    pub used: usize,
+    // How many entries they are, the open one included.
+    pub count: u32,
+    pub phase: Phase,
+}
+
+// What a step hands back.
+pub struct Turned {
+    pub section: Section,
+    pub answer: Answer,
+}
+
+// Whether a family is a section's.
+fn is_known(family: u32) -> bool
+    ensures { λ r. ⌜ r ≡ knownFamily family ⌝ }
+{
+    if family == 7 {
+        return true;
+    }
+    if family == 8 {
+        return true;
+    }
+    family == 10
+}
+
+// The row written by the writer of its family.
+pub fn write_by(family: u32, row: &[u32], pool: &[u8], body: &mut [u8], at: usize) -> Answer
+    ensures { λ r. ⌜ left r (now (body .exit)) ≡ writeFamily family (now (row .entry)) (now (pool .entry)) (now (body .entry)) at ⌝ }
+{
+    if family == 7 {
+        return types::write(row, pool, body, at);
+    }
+    if family == 8 {
+        return canonicals::write(row, pool, body, at);
+    }
+    imports::write(row, pool, body, at)
+}
+
+impl Phase {
+    fn is_open(self) -> bool
+        ensures { λ r. ⌜ r ≡ opened self ⌝ }
+    {
+        match self {
+            Phase::Closed => false,
+            Phase::Opened(_) => true,
+            Phase::Asynced(_) => true,
+            Phase::Parametered(_) => true,
+        }
+    }
+}
+
+impl Section {
+    // A section with nothing in it.
+    pub fn new(family: u32) -> Self
+        ensures { λ r. ⌜ r ≡ fresh family ⌝ }
+    {
+        Section {
+            family: family,
+            used: 0,
+            count: 0,
+            phase: Phase::Closed,
+        }
+    }
+
+    // Whether an entry may be open that starts at `start`.
+    fn holds(self, start: usize) -> bool
+        ensures { λ r. ⌜ r ≡ holdsAt self start ⌝ }
+    {
+        let family = self.family;
+        let used = self.used;
+        let count = self.count;
+        if family == 7 {
+            if start <= used {
+                return 0 < count;
+            }
+            return false;
+        }
+        false
+    }
+
+    // Whether the state can stand over a body of n bytes.
+    fn sound(self, n: usize) -> bool
+        ensures { λ r. ⌜ r ≡ sounds self n ⌝ }
+    {
+        let used = self.used;
+        let family = self.family;
+        let phase = self.phase;
+        if n < used {
+            return false;
+        }
+        match phase {
+            Phase::Closed => is_known(family),
+            Phase::Opened(start) => self.holds(start),
+            Phase::Asynced(start) => self.holds(start),
+            Phase::Parametered(start) => self.holds(start),
+        }
+    }
+
+    fn refuse(self, why: Refusal, value: usize) -> Turned
+        ensures { λ r. ⌜ r ≡ refused self why value ⌝ }
+    {
+        Turned {
+            section: self,
+            answer: Answer::Refused(why, value),
+        }
+    }
+
+    // The state after an answer: grown by the bytes that were added, with that count and phase; or as it was.
+    fn after(self, answer: Answer, count: u32, phase: Phase) -> Turned
+        requires { ⌜ Fits self answer ⌝ }
+        ensures { λ r. ⌜ r ≡ taken self answer count phase ⌝ }
+    {
+        let family = self.family;
+        let used = self.used;
+        match answer {
+            Answer::Size(n) => {
+                let grown = used + n;
+                Turned {
+                    section: Section {
+                        family: family,
+                        used: grown,
+                        count: count,
+                        phase: phase,
+                    },
+                    answer: Answer::Size(n),
+                }
+            }
+            Answer::Refused(why, value) => self.refuse(why, value),
+        }
+    }
+
+    // A row: its bytes, and one entry more.
+    pub fn row(self, row: &[u32], pool: &[u8], body: &mut [u8]) -> Turned
+        ensures { λ r. ⌜ turned r (now (body .exit)) ≡ rowing self (now (row .entry)) (now (pool .entry)) (now (body .entry)) ⌝ }
+    {
+        let family = self.family;
+        let used = self.used;
+        let count = self.count;
+        let phase = self.phase;
+        if !self.sound(body.len()) {
+            return self.refuse(Refusal::Limit, 0);
+        }
+        if 16384 < row.len() {
+            return self.refuse(Refusal::Limit, 0);
+        }
+        if 65536 < pool.len() {
+            return self.refuse(Refusal::Limit, 0);
+        }
+        if phase.is_open() {
+            return self.refuse(Refusal::Order, 0);
+        }
+        if count == 4294967295 {
+            return self.refuse(Refusal::Count, 0);
+        }
+        let answer = write_by(family, row, pool, body, used);
+        self.after(answer, count + 1, Phase::Closed)
+    }
+
+    // Opens a function: one entry more, and nothing written yet.
+    pub fn open(self, body: &mut [u8]) -> Turned
+        ensures { λ r. ⌜ turned r (now (body .exit)) ≡ opening self (now (body .entry)) ⌝ }
+    {
+        let family = self.family;
+        let used = self.used;
+        let count = self.count;
+        let phase = self.phase;
+        if !self.sound(body.len()) {
+            return self.refuse(Refusal::Limit, 0);
+        }
+        if phase.is_open() {
+            return self.refuse(Refusal::Order, 0);
+        }
+        if count == 4294967295 {
+            return self.refuse(Refusal::Count, 0);
+        }
+        if family == 7 {
+            return self.after(Answer::Size(0), count + 1, Phase::Opened(used));
+        }
+        self.refuse(Refusal::Kind, 0)
+    }
+
+    // The function's first byte: 40, or 43 where a is 1.
+    pub fn make_async(self, a: u32, body: &mut [u8]) -> Turned
+        ensures { λ r. ⌜ turned r (now (body .exit)) ≡ asyncing self a (now (body .entry)) ⌝ }
+    {
+        let used = self.used;
+        let count = self.count;
+        let phase = self.phase;
+        if !self.sound(body.len()) {
+            return self.refuse(Refusal::Limit, 0);
+        }
+        match phase {
+            Phase::Opened(start) => {
+                let answer = write_alone(Field::Async, a, 0, 1, body, used);
+                self.after(answer, count, Phase::Asynced(start))
+            }
+            Phase::Closed => self.refuse(Refusal::Order, 0),
+            Phase::Asynced(_) => self.refuse(Refusal::Order, 0),
+            Phase::Parametered(_) => self.refuse(Refusal::Order, 0),
+        }
+    }
+
+    // The function's parameters: n and n of (N,V). Without async given before, 40 comes first.
+    pub fn params(self, words: &[u32], pool: &[u8], body: &mut [u8]) -> Turned
+        ensures { λ r. ⌜ turned r (now (body .exit)) ≡ paraming self (now (words .entry)) (now (pool .entry)) (now (body .entry)) ⌝ }
+    {
+        let used = self.used;
+        let count = self.count;
+        let phase = self.phase;
+        if !self.sound(body.len()) {
+            return self.refuse(Refusal::Limit, 0);
+        }
+        if 16384 < words.len() {
+            return self.refuse(Refusal::Limit, 0);
+        }
+        if 65536 < pool.len() {
+            return self.refuse(Refusal::Limit, 0);
+        }
+        match phase {
+            Phase::Opened(start) => {
+                let answer = write_params(Field::Fixed(0x40), words, pool, body, used);
+                self.after(answer, count, Phase::Parametered(start))
+            }
+            Phase::Asynced(start) => {
+                let answer = write_params(Field::Nothing, words, pool, body, used);
+                self.after(answer, count, Phase::Parametered(start))
+            }
+            Phase::Closed => self.refuse(Refusal::Order, 0),
+            Phase::Parametered(_) => self.refuse(Refusal::Order, 0),
+        }
+    }
+
+    // The function's result, an O, which closes the entry.
+    pub fn result(self, tag: u32, x: u32, body: &mut [u8]) -> Turned
+        ensures { λ r. ⌜ turned r (now (body .exit)) ≡ resulting self tag x (now (body .entry)) ⌝ }
+    {
+        let used = self.used;
+        let count = self.count;
+        let phase = self.phase;
+        if !self.sound(body.len()) {
+            return self.refuse(Refusal::Limit, 0);
+        }
+        match phase {
+            Phase::Parametered(_) => {
+                let answer = write_alone(Field::Result, tag, x, 2, body, used);
+                self.after(answer, count, Phase::Closed)
+            }
+            Phase::Closed => self.refuse(Refusal::Order, 0),
+            Phase::Opened(_) => self.refuse(Refusal::Order, 0),
+            Phase::Asynced(_) => self.refuse(Refusal::Order, 0),
+        }
+    }
+
+    // Takes an open function back: used and count as they were before it was opened.
+    pub fn abandon(self, body: &mut [u8]) -> Turned
+        ensures { λ r. ⌜ turned r (now (body .exit)) ≡ abandoning self (now (body .entry)) ⌝ }
+    {
+        let phase = self.phase;
+        if !self.sound(body.len()) {
+            return self.refuse(Refusal::Limit, 0);
+        }
+        match phase {
+            Phase::Opened(start) => self.back_to(start),
+            Phase::Asynced(start) => self.back_to(start),
+            Phase::Parametered(start) => self.back_to(start),
+            Phase::Closed => self.refuse(Refusal::Order, 0),
+        }
+    }
+
+    // The state before an entry that starts there was opened.
+    fn back_to(self, start: usize) -> Turned
+        requires { ⌜ 0 < self .count ⌝ }
+        ensures { λ r. ⌜ r ≡ withdrawn self start ⌝ }
+    {
+        let family = self.family;
+        let count = self.count;
+        Turned {
+            section: Section {
+                family: family,
+                used: start,
+                count: count - 1,
+                phase: Phase::Closed,
+            },
+            answer: Answer::Size(0),
+        }
+    }
+
+    // The finished section: id, size of count and body, count, body.
+    pub fn finish(self, body: &[u8], out: &mut [u8]) -> Answer
+        ensures { λ r. ⌜ left r (now (out .exit)) ≡ finishing self (now (body .entry)) (now (out .entry)) ⌝ }
+    {
+        let family = self.family;
+        let used = self.used;
+        let count = self.count;
+        let phase = self.phase;
+        if !self.sound(body.len()) {
+            return Answer::Refused(Refusal::Limit, 0);
+        }
+        if phase.is_open() {
+            return Answer::Refused(Refusal::Order, 0);
+        }
+        frame(family, count, &body[..used], out)
+    }
+}
+
+// A field alone, its words a and, where it has two, b.
+fn write_alone(f: Field, a: u32, b: u32, n: usize, body: &mut [u8], at: usize) -> Answer
+    requires { ⌜ n ≤ 2 ⌝ }
+    ensures { λ r. ⌜ left r (now (body .exit)) ≡ writeShape (twoOf Field.Nothing Field.Nothing f Field.Nothing) (take n (a ∷ b ∷ [])) 0 [] (now (body .entry)) at ⌝ }
+{
+    let words = [a, b];
+    let pool = [0u8; 1];
+    let shape = Shape {
+        lead: Field::Nothing,
+        zero: Field::Nothing,
+        first: f,
+        second: Field::Nothing,
+        counted: false,
+        one: Field::Nothing,
+        two: Field::Nothing,
+        last: Field::Nothing,
+    };
+    fields::write_shape(shape, &words[..n], 0, &pool[..0], body, at)
+}
+
+// A count and as many parameters, behind a byte or none.
+fn write_params(lead: Field, words: &[u32], pool: &[u8], body: &mut [u8], at: usize) -> Answer
+    ensures { λ r. ⌜ left r (now (body .exit)) ≡ writeShape (manyOf lead Field.Nothing Field.Nothing Field.Name Field.Value Field.Nothing) (now (words .entry)) 0 (now (pool .entry)) (now (body .entry)) at ⌝ }
+{
+    let shape = Shape {
+        lead: lead,
+        zero: Field::Nothing,
+        first: Field::Nothing,
+        second: Field::Nothing,
+        counted: true,
+        one: Field::Name,
+        two: Field::Value,
+        last: Field::Nothing,
+    };
+    fields::write_shape(shape, words, 0, pool, body, at)
+}
+
+// The bytes of a section: id, size, count, body.
+fn put_frame(family: u8, size: u32, count: u32, body: &[u8], out: &mut [u8])
+    requires { ⌜ length (framed family size count (now body)) ≤ length (now out) ⌝ }
+    ensures { λ _. ⌜ now (out .exit) ≡ sets (now (out .entry)) 0 (framed family size count (now (body .entry))) ⌝ }
+{
+    out[0] = family;
+    let counted = 1 + stored_size(numbers::put_unsigned(size, 1, out));
+    let start = counted + stored_size(numbers::put_unsigned(count, counted, out));
+    numbers::copy(body, start, out);
+}
+
+fn stored_size(s: Stored) -> usize
+    ensures { λ r. ⌜ r ≡ valueOf s ⌝ }
+{
+    match s {
+        Stored::Size(n) => n,
+        Stored::Room(n) => n,
+    }
+}
+
+// The section of a family, a count and a body, at the front of out.
+fn frame(family: u32, count: u32, body: &[u8], out: &mut [u8]) -> Answer
+    requires { ⌜ family < 256 ⌝ }
+    ensures { λ r. ⌜ left r (now (out .exit)) ≡ framing family count (now (body .entry)) (now (out .entry)) ⌝ }
+{
+    let counted = numbers::unsigned_size(count);
+    if 4294967295 - counted < body.len() {
+        return Answer::Refused(Refusal::TooBig, 0);
+    }
+    let size = counted + body.len();
+    let all = 1 + numbers::unsigned_size(size as u32) + size;
+    if out.len() < all {
+        return Answer::Refused(Refusal::Room, all);
+    }
+    put_frame(family as u8, size as u32, count, body, out);
+    Answer::Size(all)
+}
