@@ -1,2 +1,6 @@
+pub mod BegunFresh
+pub mod FamilyLaws
 pub mod FrameLaws
 pub mod StepLaws
+pub mod StepsAreRow
+pub mod TurnLaws

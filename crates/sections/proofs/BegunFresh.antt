@@ -1,0 +1,126 @@
+-- Rows that are all accepted from a fresh section on: the used part of the body is exactly their bytes, one after the other, and the
+-- count is their number. And no step changes a byte of the body outside what it counts.
+use Prim.Native.Nat.{ℕ, suc, _+_, _≤_, _<_}
+use native.Mathlib.Omega.{arith}
+use mathlib.Core.Logic.{_⊎_}
+use mathlib.Core.Path.{_≡_, refl, ap, _∙_}
+use mathlib.Core.List.{List, [], _∷_, _++_}
+use lib.Dec.{ltb}
+use lib.ListN.{length, getD, take}
+use lib.Seq.{sets, length-sets}
+use Rattle.numbers.proofs.BytesLaws.{sets-outside, sets-back}
+use Rattle.fields.specs.declared.Answer.{Answer}
+use Rattle.fields.specs.declared.Answer.the-variants.{Size, Refused}
+use Rattle.fields.specs.declared.Field.the-variants as field
+use Rattle.sections.specs.declared.Phase.{Phase}
+use Rattle.sections.specs.declared.Phase.the-variants.{Closed, Opened, Asynced, Parametered}
+use Rattle.sections.specs.declared.Section.{Section}
+use Rattle.sections.specs.Section.{fresh, sounds}
+use Rattle.sections.specs.Steps.{Turn, asyncIn, paramsIn, resultIn, abandonIn, asyncing, paraming, resulting, abandoning}
+use Rattle.sections.proofs.FamilyLaws.{familyBytes}
+use Rattle.sections.proofs.TurnLaws.{Step, Row, Open, Async, Params, Result, Abandon, turn, Stand, runs, AllAccepted, Turns, refuses, stores, Grows, accepted-grows, grows-then, either, asyncShape, paramsShape, resultShape, shape-turns, row-turns, open-turns}
+
+-- ---- outside what is counted
+
+-- where n bytes are counted, the body is as it was before the used part and from n bytes behind it on; where none, all is as it was
+abbrev KeptBy : Section → List ℕ → Answer → Section → List ℕ → Type 0
+KeptBy s body (Size n) t new = (i : ℕ) → (i < s .used) ⊎ (s .used + n ≤ i) → getD new i 0 ≡ getD body i 0
+KeptBy s body (Refused w n) t new = (t ≡ s) × (new ≡ body)
+
+abbrev pub Kept : Section → List ℕ → Turn → Type 0
+Kept s body t = KeptBy s body (t .gave .answer) (t .gave .section) (t .body)
+
+turns-kept : {s : Section} {body : List ℕ} {r : Answer} {bs : List ℕ} {count : ℕ} {phase : Phase} {t : Turn} → Turns s body r bs count phase t → Kept s body t
+turns-kept (refuses w n) = (refl, refl)
+turns-kept {s} {body} {r} {bs} (stores e h) = λ i o. sets-outside bs body (s .used) i o
+
+module _ (s : Section) (body : List ℕ) where
+  async-kept : (a : ℕ) (p : Phase) → Kept s body (asyncIn p s a body)
+  async-kept a Closed = (refl, refl)
+  async-kept a (Opened start) = turns-kept (shape-turns s body (s .count) (Asynced start) asyncShape (a ∷ []) [])
+  async-kept a (Asynced start) = (refl, refl)
+  async-kept a (Parametered start) = (refl, refl)
+
+  params-kept : (words pool : List ℕ) (p : Phase) → Kept s body (paramsIn p s words pool body)
+  params-kept words pool Closed = (refl, refl)
+  params-kept words pool (Opened start) = turns-kept (shape-turns s body (s .count) (Parametered start) (paramsShape (field.Fixed 0x40)) words pool)
+  params-kept words pool (Asynced start) = turns-kept (shape-turns s body (s .count) (Parametered start) (paramsShape field.Nothing) words pool)
+  params-kept words pool (Parametered start) = (refl, refl)
+
+  result-kept : (tag x : ℕ) (p : Phase) → Kept s body (resultIn p s tag x body)
+  result-kept tag x Closed = (refl, refl)
+  result-kept tag x (Opened start) = (refl, refl)
+  result-kept tag x (Asynced start) = (refl, refl)
+  result-kept tag x (Parametered start) = turns-kept (shape-turns s body (s .count) Closed resultShape (tag ∷ x ∷ []) [])
+
+  abandon-kept : (p : Phase) → Kept s body (abandonIn p s body)
+  abandon-kept Closed = (refl, refl)
+  abandon-kept (Opened start) = λ i o. refl
+  abandon-kept (Asynced start) = λ i o. refl
+  abandon-kept (Parametered start) = λ i o. refl
+
+-- of each of the six steps
+pub outside : (x : Step) (s : Section) (body : List ℕ) → Kept s body (turn x s body)
+unfolding asyncing paraming resulting abandoning
+outside (Row row pool) s body = turns-kept (row-turns s body row pool)
+outside Open s body = turns-kept (open-turns s body)
+outside (Async a) s body = either (Kept s body) (sounds s (length body)) _ _ (async-kept s body a (s .phase)) (refl, refl)
+outside (Params words pool) s body =
+    either (Kept s body) (sounds s (length body)) _ _
+    (either (Kept s body) (ltb 16384 (length words)) _ _ (refl, refl)
+    (either (Kept s body) (ltb 65536 (length pool)) _ _ (refl, refl) (params-kept s body words pool (s .phase))))
+    (refl, refl)
+outside (Result tag x) s body = either (Kept s body) (sounds s (length body)) _ _ (result-kept s body tag x (s .phase)) (refl, refl)
+outside Abandon s body = either (Kept s body) (sounds s (length body)) _ _ (abandon-kept s body (s .phase)) (refl, refl)
+
+-- ---- rows one after the other
+
+-- a row beside its pool
+pub record Entry : Type 0 where
+  pub row : List ℕ
+  pub pool : List ℕ
+
+abbrev pub rows : List Entry → List Step
+rows [] = []
+rows (e ∷ es) = Row (e .row) (e .pool) ∷ rows es
+
+-- their bytes in order
+abbrev pub allBytes : ℕ → List Entry → List ℕ
+allBytes family [] = []
+allBytes family (e ∷ es) = familyBytes family (e .pool) (e .row) ++ allBytes family es
+
+-- what the rows make of a closed section that can stand over its body
+rows-grow : (es : List Entry) (s : Section) (body : List ℕ) → s .phase ≡ Closed → s .used ≤ length body → AllAccepted (rows es) s body
+    → Grows s body (allBytes (s .family) es) (s .count + length es) Closed (runs (rows es) s body .section) (runs (rows es) s body .body)
+rows-grow [] s body p h a =
+    record { room = omega arith; family = refl; used = omega arith; counts = omega arith; stands = p; content = refl }
+rows-grow (e ∷ es) s body p h a =
+    let t = turn (Row (e .row) (e .pool)) s body in
+    let g = accepted-grows (row-turns s body (e .row) (e .pool)) (a .0) in
+    let n : t .gave .section .count + length es ≡ s .count + suc (length es) = omega (arith, g .counts) in
+    let l : length (t .body) ≡ length body = ap length (g .content) ∙ length-sets body (s .used) (familyBytes (s .family) (e .pool) (e .row)) in
+    rw (g .family, n) at
+    (grows-then g (rows-grow es (t .gave .section) (t .body) (g .stands) (omega (arith, g .used, g .room, l)) (a .1)))
+
+-- the section and the body at the end, from a fresh section over `body` on
+pub record Begun (family : ℕ) (es : List Entry) (body : List ℕ) (end : Stand) : Type 0 where
+  pub family-is : end .section .family ≡ family
+  pub used-is : end .section .used ≡ length (allBytes family es)
+  pub count-is : end .section .count ≡ length es
+  pub closed : end .section .phase ≡ Closed
+  pub content : end .body ≡ sets body 0 (allBytes family es)
+  pub used-part : take (end .section .used) (end .body) ≡ allBytes family es
+
+pub begun-fresh : (family : ℕ) (es : List Entry) (body : List ℕ) → AllAccepted (rows es) (fresh family) body
+    → Begun family es body (runs (rows es) (fresh family) body)
+begun-fresh family es body a =
+    let g = rows-grow es (fresh family) body refl (omega arith) a in
+    let n : runs (rows es) (fresh family) body .section .used ≡ length (allBytes family es) = omega (arith, g .used) in
+    record {
+      family-is = g .family;
+      used-is = n;
+      count-is = omega (arith, g .counts);
+      closed = g .stands;
+      content = g .content;
+      used-part = rw (n, g .content) (sets-back (allBytes family es) body 0 (g .room));
+    }

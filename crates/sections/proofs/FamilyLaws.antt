@@ -1,0 +1,107 @@
+-- The bytes of a row by its family: the writer of a family stores them, and an accepted row's size is their length.
+use Prim.Native.Nat.{ℕ}
+use native.Mathlib.Omega.{arith}
+use mathlib.Core.Path.{_≡_, refl, ap, _∙_}
+use mathlib.Core.Bool.{Bool, true, false}
+use mathlib.Core.List.{List, [], _∷_, _++_, append-nil}
+use lib.Dec.{eqb}
+use lib.ListN.{length, drop, length-append}
+use Rattle.fields.specs.declared.Answer.{Answer}
+use Rattle.fields.specs.declared.Answer.the-variants.{Size}
+use Rattle.fields.specs.declared.Field.the-variants as field
+use Rattle.fields.specs.declared.Found.{Found}
+use Rattle.fields.specs.declared.Found.the-variants.{Is}
+use Rattle.fields.specs.Binary.{pick, word, bytes, canonopt}
+use Rattle.fields.specs.Judge.{wide}
+use Rattle.fields.specs.Row.{measuredRow, rowBytes, writeRow}
+use Rattle.fields.specs.Shape.{repeated, widths, rowWidth}
+use Rattle.fields.specs.Table.{shapeIn, elements}
+use Rattle.fields.specs.Write.{stored, written}
+use Rattle.fields.proofs.AnswerLaws.{Sized}
+use Rattle.fields.proofs.TableLaws.{strings, written-right, group-bytes, same-elements}
+use Rattle.fields.proofs.WholeLaws.{accepted, size-is-length}
+use Rattle.types.specs.Write as types
+use Rattle.types.specs.Write.{measuredType, writeType}
+use Rattle.imports.specs.Write as imports
+use Rattle.imports.specs.Write.{measuredImport, writeImport}
+use Rattle.canonicals.specs.Table.{table, liftShape, lift}
+use Rattle.canonicals.specs.Write.{measuredCanonical, canonicalBytes, writeCanonical}
+use Rattle.sections.specs.Section.{writeFamily}
+
+-- types, canonicals, imports
+unfoldable pub familyBytes : ℕ → List ℕ → List ℕ → List ℕ
+familyBytes family pool row =
+    pick (eqb family 7) (rowBytes (types.shapeOf (word row 0)) pool row)
+    (pick (eqb family 8) (canonicalBytes pool row) (rowBytes (imports.shapeOf (word row 0)) pool row))
+
+unfoldable pub measuredFamily : ℕ → List ℕ → List ℕ → Answer
+measuredFamily family row pool =
+    pick (eqb family 7) (measuredType row pool) (pick (eqb family 8) (measuredCanonical row pool) (measuredImport row pool))
+
+pub family-stored : (family : ℕ) (row pool body : List ℕ) (at : ℕ)
+    → writeFamily family row pool body at ≡ stored (measuredFamily family row pool) (familyBytes family pool row) body at
+unfolding writeFamily measuredFamily familyBytes writeType measuredType writeCanonical writeImport measuredImport writeRow
+family-stored family row pool body at = go (eqb family 7) (eqb family 8)
+  where
+    by : {X : Type 0} → Bool → Bool → X → X → X → X
+    by a b t c i = pick a t (pick b c i)
+
+    go : (a b : Bool)
+        → by a b (writeType row pool body at) (writeCanonical row pool body at) (writeImport row pool body at)
+        ≡ stored (by a b (measuredType row pool) (measuredCanonical row pool) (measuredImport row pool))
+        (by a b (rowBytes (types.shapeOf (word row 0)) pool row) (canonicalBytes pool row) (rowBytes (imports.shapeOf (word row 0)) pool row)) body at
+    go true b = refl
+    go false true = refl
+    go false false = refl
+
+-- ---- sizes
+
+row-size : (found : Found) (row pool : List ℕ) (size : ℕ) → measuredRow found row pool ≡ Size size → size ≡ length (rowBytes found pool row)
+unfolding rowBytes
+row-size found row pool size e = let a = accepted found row pool size e in rw (a .is) (size-is-length (a .sized))
+
+-- a lift has its bytes in another order than its words, and as many
+options-length : (pool : List ℕ) (n : ℕ) (os : List ℕ)
+    → length (strings pool (repeated n (field.Choice ∷ field.Nothing ∷ []) ++ field.Nothing ∷ []) os)
+    ≡ length (elements n 2 (λ vs. canonopt (word vs 0) (word vs 1)) os)
+unfolding wide bytes
+options-length pool n os =
+    ap length
+    (group-bytes pool field.Choice field.Nothing field.Nothing n os ∙ append-nil _
+    ∙ same-elements n 2 _ (λ vs. canonopt (word vs 0) (word vs 1)) (λ vs. append-nil _) os)
+
+lift-length : (row pool : List ℕ) (size : ℕ) → Sized liftShape row 1 pool size → length (written liftShape pool row 1) ≡ length (lift (drop 1 row))
+unfolding strings widths rowWidth wide bytes lift
+lift-length [] pool size k = absurd (omega (arith, k .width))
+lift-length (l ∷ []) pool size k = absurd (omega (arith, k .width))
+lift-length (l ∷ f ∷ []) pool size k = absurd (omega (arith, k .width))
+lift-length (l ∷ f ∷ t ∷ []) pool size k = absurd (omega (arith, k .width))
+lift-length (l ∷ f ∷ t ∷ n ∷ os) pool size k =
+    ap length (written-right liftShape pool (l ∷ f ∷ t ∷ n ∷ os) 1 (k .end) size (k .judges))
+    ∙ simp length-append (omega (arith, options-length pool n os))
+
+canonical-size : (row pool : List ℕ) (size : ℕ) → measuredCanonical row pool ≡ Size size → size ≡ length (canonicalBytes pool row)
+unfolding measuredCanonical canonicalBytes
+canonical-size row pool size e = go (eqb (word row 0) 256) e
+  where
+    go : (b : Bool) → measuredRow (pick b (Is liftShape) (shapeIn table (word row 0))) row pool ≡ Size size
+        → size ≡ length (pick b (lift (drop 1 row)) (rowBytes (shapeIn table (word row 0)) pool row))
+    go true e =
+        let a = accepted (Is liftShape) row pool size e in
+        let same : a .shape ≡ liftShape = cc in
+        let k : Sized liftShape row 1 pool size = rw same at (a .sized) in
+        size-is-length k ∙ lift-length row pool size k
+    go false e = row-size (shapeIn table (word row 0)) row pool size e
+
+pub family-size : (family : ℕ) (row pool : List ℕ) (size : ℕ) → measuredFamily family row pool ≡ Size size
+    → size ≡ length (familyBytes family pool row)
+unfolding measuredFamily familyBytes measuredType measuredImport
+family-size family row pool size e = go (eqb family 7) (eqb family 8) e
+  where
+    go : (a b : Bool) → pick a (measuredType row pool) (pick b (measuredCanonical row pool) (measuredImport row pool)) ≡ Size size
+        → size
+        ≡ length (pick a (rowBytes (types.shapeOf (word row 0)) pool row)
+        (pick b (canonicalBytes pool row) (rowBytes (imports.shapeOf (word row 0)) pool row)))
+    go true b e = row-size (types.shapeOf (word row 0)) row pool size e
+    go false true e = canonical-size row pool size e
+    go false false e = row-size (imports.shapeOf (word row 0)) row pool size e
