@@ -1,0 +1,5 @@
+mod FamilyLaws
+mod FinishLaws
+mod FrameLaws
+mod SheetLaws
+mod Whole

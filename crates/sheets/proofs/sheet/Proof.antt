@@ -1,0 +1,60 @@
+-- `sheet` meets its contract: a sheet too long, one whose frame is broken, and one whose rows are tried.
+use mathlib.Core.Path.{_≡_, sym, ap, _∙_, subst}
+use borrow.Author.Needs.{needs}
+use borrow.Author.Tests.{lt-ltb, le-ltb}
+use denote.Ref.{now}
+use Rattle.sheets.specs.Sheet.{ofRows, sheeted}
+use Rattle.sheets.specs.Steps.{Starts}
+use Rattle.sheets.proofs.sheet.Statement.{statement}
+use Rattle.sheets.proofs.sheet.Tie as tie
+
+returns : tie.Need-returns
+unfolding sheeted
+returns c = simp (lt-ltb _ _ (c .if1 .taken))
+
+rows-of-requires : tie.Need-rows-of-requires
+rows-of-requires c κs = search needs
+
+enum-known-start : tie.Need-enum-known-start
+enum-known-start c = search needs
+
+sheet-rows-requires : tie.Need-sheet-rows-requires
+sheet-rows-requires c κs =
+    let r = c .before .before .before .before .before in
+    let a = r .before .before .before .before .before .args in
+    (subst (λ x. Starts x (now (a .input))) (c .before .before .before .start .given .1) (r .rows-of .ensures), r .before .if1 .left)
+
+enum-told : tie.Need-enum-told
+enum-told c = search needs
+
+same-length : tie.Need-same-length
+same-length c = search needs
+
+same-length-2 : tie.Need-same-length-2
+same-length-2 c = search needs
+
+returns-2 : tie.Need-returns-2
+unfolding sheeted
+returns-2 c = simp (le-ltb _ _ (c .before .before .before .before .before .before .before .before .before .before .before .if1 .left)) (c .before .before .before .before .sheet-rows .ensures)
+
+returns-3 : tie.Need-returns-3
+unfolding sheeted
+returns-3 c =
+    let r = c .before .before in
+    let a = r .before .before .before .before .before .args in
+    let broken = subst (λ x. Starts x (now (a .input))) (c .enum-told .given .1) (r .rows-of .ensures) in
+    simp (le-ltb _ _ (r .before .if1 .left), broken)
+
+pub sheet-spec : {M : Type 1} → statement M
+sheet-spec =
+    tie.close
+    (tie.spec
+    returns
+    rows-of-requires
+    enum-known-start
+    sheet-rows-requires
+    enum-told
+    same-length
+    same-length-2
+    returns-2
+    returns-3)

@@ -1,0 +1,264 @@
+// A sheet: a pool and rows in one run of bytes, tried whole before a byte is written, and finished as a section.
+use fields::Answer;
+use fields::Leaf;
+use fields::Refusal;
+use sections::Phase;
+use sections::Section;
+ghost use mathlib.Core.Path.{_≡_};
+ghost use Prim.Native.Nat.{_<_, _≤_, _+_, _*_};
+ghost use lib.ListN.{length};
+ghost use lib.Seq.{sets};
+ghost use Rattle.fields.specs.Run.{Wrote};
+ghost use Rattle.sheets.specs.Frame.{number, words, framed, poolOf};
+ghost use Rattle.sheets.specs.Sheet.{left, measureFamily, familyBytes, tries, joined, ofRows, sheeted};
+ghost use Rattle.sheets.specs.Steps.{rest, whole, listed, Framed, Found, Starts, firstFamily, Fits, Passed, sectionSize};
+
+// Where a sheet's rows start.
+enum Framing {
+    At(usize),
+    // The version is wrong, there is no row, or a part runs past the end.
+    Broken,
+}
+
+// The number of four bytes at `at`, the highest first.
+fn number_at(input: &[u8], at: usize) -> u32
+    requires { ⌜ at + 4 ≤ length (now input) ⌝ }
+    ensures { λ r. ⌜ r ≡ number (now (input .entry)) at ⌝ }
+{
+    let high = input[at] as u32 * 256 + input[at + 1] as u32;
+    (high * 256 + input[at + 2] as u32) * 256 + input[at + 3] as u32
+}
+
+// n words of the input from `at` on, at the front of the row.
+fn fill_words(input: &[u8], at: usize, n: usize, row: &mut [u32])
+    requires { ⌜ at + 4 * n ≤ length (now input) ⌝ }
+    requires { ⌜ n ≤ length (now row) ⌝ }
+    ensures { λ _. ⌜ now (row .exit) ≡ sets (now (row .entry)) 0 (words (now (input .entry)) at n) ⌝ }
+{
+    let mut i: usize = 0;
+    while i < n {
+        row[i] = number_at(input, at + 4 * i);
+        i += 1;
+    }
+}
+
+// Whether rows, each whole, fill the sheet from `start` to its end.
+fn is_framed(input: &[u8], start: usize) -> bool
+    requires { ⌜ start ≤ length (now input) ⌝ }
+    ensures { λ r. ⌜ r ≡ whole (rest (now (input .entry)) start) ⌝ }
+{
+    let mut at = start;
+    while at < input.len() {
+        if input.len() - at < 4 {
+            return false;
+        }
+        let n = number_at(input, at) as usize;
+        if (input.len() - at - 4) / 4 < n {
+            return false;
+        }
+        at += 4 + 4 * n;
+    }
+    true
+}
+
+// The frame checked whole, before any row is looked at.
+fn rows_of(input: &[u8]) -> Framing
+    ensures { λ r. ⌜ Starts r (now (input .entry)) ⌝ }
+{
+    if input.len() < 5 {
+        return Framing::Broken;
+    }
+    if input[0] != 1 {
+        return Framing::Broken;
+    }
+    let size = number_at(input, 1) as usize;
+    if input.len() - 5 <= size {
+        return Framing::Broken;
+    }
+    let start = 5 + size;
+    if is_framed(input, start) {
+        return Framing::At(start);
+    }
+    Framing::Broken
+}
+
+// The family that a first row at `start` sets: that of its kind.
+fn family_at(input: &[u8], start: usize) -> u32
+    requires { ⌜ Framed (now input) start ⌝ }
+    requires { ⌜ start < length (now input) ⌝ }
+    ensures { λ r. ⌜ r ≡ firstFamily (now (input .entry)) start ⌝ }
+{
+    if number_at(input, start) == 0 {
+        return 7;
+    }
+    let kind = number_at(input, start + 4);
+    if 256 <= kind {
+        return 8;
+    }
+    if kind == 17 {
+        return 10;
+    }
+    7
+}
+
+// The size of a row of a family, or why it is refused, room apart.
+fn measure_by(family: u32, row: &[u32], pool: &[u8]) -> Answer
+    ensures { λ r. ⌜ r ≡ measureFamily family (now (row .entry)) (now (pool .entry)) ⌝ }
+{
+    if family == 7 {
+        return types::measure(row, pool);
+    }
+    if family == 8 {
+        return canonicals::measure(row, pool);
+    }
+    imports::measure(row, pool)
+}
+
+// The size of the row of n words at `at`, which is laid out in the scratch row.
+fn measure_at(
+    input: &[u8],
+    at: usize,
+    n: usize,
+    family: u32,
+    pool: &[u8],
+    scratch: &mut [u32],
+) -> Answer
+    requires { ⌜ at + 4 * n ≤ length (now input) ⌝ }
+    requires { ⌜ n ≤ length (now scratch) ⌝ }
+    ensures { λ r. ⌜ r ≡ measureFamily family (words (now (input .entry)) at n) (now (pool .entry)) ⌝ }
+{
+    fill_words(input, at, n, scratch);
+    measure_by(family, &scratch[..n], pool)
+}
+
+// All rows from `start` on tried in order: how many they are and the bytes they take, or the first that is refused.
+fn try_rows(
+    input: &[u8],
+    start: usize,
+    family: u32,
+    pool: &[u8],
+    scratch: &mut [u32],
+    room: usize,
+) -> Leaf
+    requires { ⌜ Framed (now input) start ⌝ }
+    requires { ⌜ length (now input) ≤ 4 * length (now scratch) ⌝ }
+    ensures { λ r. ⌜ r ≡ tries family (now (pool .entry)) room (listed (rest (now (input .entry)) start)) 0 0 ⌝ }
+{
+    let mut at = start;
+    let mut rows: usize = 0;
+    let mut used: usize = 0;
+    while at < input.len() {
+        let n = number_at(input, at) as usize;
+        match measure_at(input, at + 4, n, family, pool, scratch) {
+            Answer::Size(size) => {
+                if room - used < size {
+                    return Leaf::Bad(Refusal::Room, rows);
+                }
+                used += size;
+            }
+            Answer::Refused(why, _) => {
+                return Leaf::Bad(why, rows);
+            }
+        }
+        rows += 1;
+        at += 4 + 4 * n;
+    }
+    Leaf::Fine(rows, used)
+}
+
+// The bytes of the row of n words at `at`, put into body from `used` on: the place past them.
+fn write_at(
+    input: &[u8],
+    at: usize,
+    n: usize,
+    family: u32,
+    pool: &[u8],
+    scratch: &mut [u32],
+    body: &mut [u8],
+    used: usize,
+) -> usize
+    requires { ⌜ at + 4 * n ≤ length (now input) ⌝ }
+    requires { ⌜ n ≤ length (now scratch) ⌝ }
+    requires { ⌜ Fits family (words (now input) at n) (now pool) (length (now body)) used ⌝ }
+    ensures { λ r. ⌜ Wrote (now (body .entry)) used (familyBytes family (now (pool .entry)) (words (now (input .entry)) at n)) r (now (body .exit)) ⌝ }
+{
+    fill_words(input, at, n, scratch);
+    match sections::write_by(family, &scratch[..n], pool, body, used) {
+        Answer::Size(size) => used + size,
+        Answer::Refused(_, _) => used,
+    }
+}
+
+// The bytes of all rows from `start` on, which were tried, at the front of body.
+fn write_rows(
+    input: &[u8],
+    start: usize,
+    family: u32,
+    pool: &[u8],
+    scratch: &mut [u32],
+    body: &mut [u8],
+)
+    requires { ⌜ Framed (now input) start ⌝ }
+    requires { ⌜ length (now input) ≤ 4 * length (now scratch) ⌝ }
+    requires { ⌜ Passed (tries family (now pool) (length (now body)) (listed (rest (now input) start)) 0 0) ⌝ }
+    ensures { λ _. ⌜ now (body .exit) ≡ sets (now (body .entry)) 0 (joined family (now (pool .entry)) (listed (rest (now (input .entry)) start))) ⌝ }
+{
+    let mut at = start;
+    let mut used: usize = 0;
+    while at < input.len() {
+        let n = number_at(input, at) as usize;
+        used = write_at(input, at + 4, n, family, pool, scratch, body, used);
+        at += 4 + 4 * n;
+    }
+}
+
+// The size of a finished section of so many rows and bytes.
+fn section_size(rows: u32, used: usize) -> usize
+    requires { ⌜ used ≤ 4294967290 ⌝ }
+    ensures { λ r. ⌜ r ≡ sectionSize rows used ⌝ }
+{
+    let size = numbers::unsigned_size(rows) + used;
+    1 + numbers::unsigned_size(size as u32) + size
+}
+
+// The rows tried, body and output room included, and only then written and finished.
+fn sheet_rows(input: &[u8], start: usize, body: &mut [u8], out: &mut [u8]) -> Answer
+    requires { ⌜ Found (now input) start ⌝ }
+    requires { ⌜ length (now input) ≤ 65536 ⌝ }
+    ensures { λ r. ⌜ left r (now (body .exit)) (now (out .exit)) ≡ ofRows (framed (now (input .entry))) (poolOf (now (input .entry))) (now (body .entry)) (now (out .entry)) ⌝ }
+{
+    let family = family_at(input, start);
+    let pool = &input[5..start];
+    let mut scratch = [0u32; 16384];
+    match try_rows(input, start, family, pool, &mut scratch, body.len()) {
+        Leaf::Fine(rows, used) => {
+            let count = rows as u32;
+            if out.len() < section_size(count, used) {
+                return Answer::Refused(Refusal::Room, rows);
+            }
+            write_rows(input, start, family, pool, &mut scratch, body);
+            let section = Section {
+                family: family,
+                used: used,
+                count: count,
+                phase: Phase::Closed,
+            };
+            section.finish(body, out)
+        }
+        Leaf::Bad(why, row) => Answer::Refused(why, row),
+    }
+}
+
+// The sheet's rows as the bytes at the front of body, and the finished section at the front of out. The answer's value is the
+// section's size, or the row at which the sheet is refused, counted from 0.
+pub fn sheet(input: &[u8], body: &mut [u8], out: &mut [u8]) -> Answer
+    ensures { λ r. ⌜ left r (now (body .exit)) (now (out .exit)) ≡ sheeted (now (input .entry)) (now (body .entry)) (now (out .entry)) ⌝ }
+{
+    if 65536 < input.len() {
+        return Answer::Refused(Refusal::Limit, 0);
+    }
+    match rows_of(input) {
+        Framing::At(start) => sheet_rows(input, start, body, out),
+        Framing::Broken => Answer::Refused(Refusal::Sheet, 0),
+    }
+}
