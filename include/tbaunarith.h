@@ -1,7 +1,8 @@
 /* The C interface of the library: sections, steps and sheets of WebAssembly component types, imports and canonicals.
  *
  * Build the library with `rt staticlib cabi`, which writes target/staticlib/libcabi.a, and link it.
- * Every call takes every input and returns. A refusal changes no buffer and no state. */
+ * Every call takes every input and returns. A refusal changes no buffer and no state.
+ * What a call may write (state, body, out) must not overlap anything else that is passed to it. */
 #ifndef TBAUNARITH_H
 #define TBAUNARITH_H
 
