@@ -15,9 +15,8 @@ use Rattle.fields.specs.declared.Field.the-variants as field
 use Rattle.sections.specs.declared.Phase.{Phase}
 use Rattle.sections.specs.declared.Phase.the-variants.{Closed, Opened, Asynced, Parametered}
 use Rattle.sections.specs.declared.Section.{Section}
-use Rattle.sections.specs.Section.{fresh, sounds}
+use Rattle.sections.specs.Section.{familyBytes, fresh, sounds}
 use Rattle.sections.specs.Steps.{Turn, asyncIn, paramsIn, resultIn, abandonIn, asyncing, paraming, resulting, abandoning}
-use Rattle.sections.proofs.FamilyLaws.{familyBytes}
 use Rattle.sections.proofs.TurnLaws.{Step, Row, Open, Async, Params, Result, Abandon, turn, Stand, runs, AllAccepted, Turns, refuses, stores, Grows, accepted-grows, grows-then, either, asyncShape, paramsShape, resultShape, shape-turns, row-turns, open-turns}
 
 -- ---- outside what is counted

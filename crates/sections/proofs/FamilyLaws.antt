@@ -26,17 +26,7 @@ use Rattle.imports.specs.Write as imports
 use Rattle.imports.specs.Write.{measuredImport, writeImport}
 use Rattle.canonicals.specs.Table.{table, liftShape, lift}
 use Rattle.canonicals.specs.Write.{measuredCanonical, canonicalBytes, writeCanonical}
-use Rattle.sections.specs.Section.{writeFamily}
-
--- types, canonicals, imports
-unfoldable pub familyBytes : ℕ → List ℕ → List ℕ → List ℕ
-familyBytes family pool row =
-    pick (eqb family 7) (rowBytes (types.shapeOf (word row 0)) pool row)
-    (pick (eqb family 8) (canonicalBytes pool row) (rowBytes (imports.shapeOf (word row 0)) pool row))
-
-unfoldable pub measuredFamily : ℕ → List ℕ → List ℕ → Answer
-measuredFamily family row pool =
-    pick (eqb family 7) (measuredType row pool) (pick (eqb family 8) (measuredCanonical row pool) (measuredImport row pool))
+use Rattle.sections.specs.Section.{measuredFamily, familyBytes, writeFamily}
 
 pub family-stored : (family : ℕ) (row pool body : List ℕ) (at : ℕ)
     → writeFamily family row pool body at ≡ stored (measuredFamily family row pool) (familyBytes family pool row) body at

@@ -1,3 +1,4 @@
+use Rattle.sections.specs.Section.{familyBytes, measuredFamily}
 -- A function that is put together in steps is the row: where each step and the row are accepted, they leave the same section and the
 -- same body. At 4,095 parameters only the steps can be accepted: their words are 16,381, and the row's 16,385, which is LIMIT.
 use Prim.Native.Nat.{ℕ, zero, suc, _+_, _*_}
@@ -25,7 +26,6 @@ use Rattle.sections.specs.declared.Phase.{Phase}
 use Rattle.sections.specs.declared.Phase.the-variants.{Closed}
 use Rattle.sections.specs.declared.Section.{Section}
 use Rattle.sections.specs.Steps.{paramsIn, paramsFrom, rowing, opening, asyncing, paraming}
-use Rattle.sections.proofs.FamilyLaws.{familyBytes, measuredFamily}
 use Rattle.sections.proofs.TurnLaws.{Row, Open, Async, Params, Result, Stand, stand, runs, Accepted, AllAccepted, Grows, accepted-size, accepted-grows, grows-then, asyncShape, paramsShape, resultShape, row-turns, open-turns, open-family, async-turns, params-turns, result-turns}
 
 -- ---- the bytes of each step

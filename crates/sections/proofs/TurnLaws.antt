@@ -24,9 +24,9 @@ use Rattle.fields.proofs.WholeLaws.{size-is-length}
 use Rattle.sections.specs.declared.Phase.{Phase}
 use Rattle.sections.specs.declared.Phase.the-variants.{Closed, Opened, Asynced, Parametered}
 use Rattle.sections.specs.declared.Section.{Section}
-use Rattle.sections.specs.Section.{opened, holds, sounds}
+use Rattle.sections.specs.Section.{familyBytes, measuredFamily, opened, holds, sounds}
 use Rattle.sections.specs.Steps.{Turn, turned, refused, refuse, taken, wrote, asyncIn, paramsFrom, paramsIn, resultIn, rowing, opening, asyncing, paraming, resulting, abandoning}
-use Rattle.sections.proofs.FamilyLaws.{familyBytes, measuredFamily, family-stored, family-size}
+use Rattle.sections.proofs.FamilyLaws.{family-stored, family-size}
 
 -- ---- steps, and what they come to one after the other
 

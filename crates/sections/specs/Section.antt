@@ -3,10 +3,15 @@ use Prim.Native.Nat.{ℕ}
 use mathlib.Core.Bool.{Bool, true, false}
 use mathlib.Core.List.{List}
 use lib.Dec.{eqb, ltb, leb}
-use Rattle.fields.specs.Binary.{pick}
+use Rattle.fields.specs.declared.Answer.{Answer}
+use Rattle.fields.specs.Binary.{pick, word}
+use Rattle.fields.specs.Row.{rowBytes}
 use Rattle.fields.specs.Write.{Left}
+use Rattle.types.specs.Write as types
 use Rattle.types.specs.Write.{writeType}
+use Rattle.imports.specs.Write as imports
 use Rattle.imports.specs.Write.{writeImport}
+use Rattle.canonicals.specs.Write as canonicals
 use Rattle.canonicals.specs.Write.{writeCanonical}
 use Rattle.sections.specs.declared.Phase.{Phase}
 use Rattle.sections.specs.declared.Phase.the-variants.{Closed, Opened, Asynced, Parametered}
@@ -39,6 +44,17 @@ holds (Parametered start) s = holdsAt s start
 -- the used part is no longer than the body of n bytes
 unfoldable pub sounds : Section → ℕ → Bool
 sounds s n = pick (ltb n (s .used)) false (holds (s .phase) s)
+
+-- the size and the bytes of a row of a family
+unfoldable pub measuredFamily : ℕ → List ℕ → List ℕ → Answer
+measuredFamily family row pool =
+    pick (eqb family 7) (types.measuredType row pool)
+    (pick (eqb family 8) (canonicals.measuredCanonical row pool) (imports.measuredImport row pool))
+
+unfoldable pub familyBytes : ℕ → List ℕ → List ℕ → List ℕ
+familyBytes family pool row =
+    pick (eqb family 7) (rowBytes (types.shapeOf (word row 0)) pool row)
+    (pick (eqb family 8) (canonicals.canonicalBytes pool row) (rowBytes (imports.shapeOf (word row 0)) pool row))
 
 -- a row by the writer of its family
 unfoldable pub writeFamily : ℕ → List ℕ → List ℕ → List ℕ → ℕ → Left

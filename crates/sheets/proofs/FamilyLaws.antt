@@ -10,9 +10,7 @@ use lib.Dec.{eqb, leb}
 use lib.ListN.{length, drop, length-append}
 use lib.Seq.{sets}
 use Rattle.numbers.specs.Leb.{unsigned}
-use Rattle.fields.specs.declared.Answer.{Answer}
 use Rattle.fields.specs.declared.Answer.the-variants.{Size}
-use Rattle.fields.specs.declared.Field.{Field}
 use Rattle.fields.specs.declared.Field.the-variants as field
 use Rattle.fields.specs.declared.Found.the-variants.{Is}
 use Rattle.fields.specs.declared.Leaf.the-variants.{Fine}
@@ -39,7 +37,7 @@ use Rattle.canonicals.specs.Table as canonicals
 use Rattle.canonicals.specs.Table.{liftShape, lift}
 use Rattle.canonicals.specs.Write.{measuredCanonical, canonicalBytes, writeCanonical}
 use Rattle.sections.specs.Section.{writeFamily}
-use Rattle.sheets.specs.Sheet.{measureFamily, familyBytes}
+use Rattle.sections.specs.Section.{measuredFamily, familyBytes}
 
 pub record Taken (row bs : List ℕ) (size : ℕ) : Type 0 where
   pub long : size ≡ length bs
@@ -121,8 +119,8 @@ canonical-row row pool size e = go (eqb (word row 0) 256) e
     go true e = lifted e
     go false e = table-row canonicals.table refl row pool size e
 
-pub family-row : (family : ℕ) (row pool : List ℕ) (size : ℕ) → measureFamily family row pool ≡ Size size → Taken row (familyBytes family pool row) size
-unfolding measureFamily familyBytes measuredType measuredImport every widths wide
+pub family-row : (family : ℕ) (row pool : List ℕ) (size : ℕ) → measuredFamily family row pool ≡ Size size → Taken row (familyBytes family pool row) size
+unfolding measuredFamily familyBytes measuredType measuredImport every widths wide
 family-row family row pool size e = go (eqb family 7) (eqb family 8) e
   where
     go : (a b : Bool)
@@ -136,9 +134,9 @@ family-row family row pool size e = go (eqb family 7) (eqb family 8) e
 -- ---- writing
 
 -- a row that its family takes is written where there is room for it
-pub family-written : (family : ℕ) (row pool body : List ℕ) (at size : ℕ) → measureFamily family row pool ≡ Size size → at + size ≤ length body
+pub family-written : (family : ℕ) (row pool body : List ℕ) (at size : ℕ) → measuredFamily family row pool ≡ Size size → at + size ≤ length body
     → writeFamily family row pool body at ≡ left (Size size) (sets body at (familyBytes family pool row))
-unfolding writeFamily measureFamily familyBytes writeType writeCanonical writeImport measuredType measuredImport writeRow stored
+unfolding writeFamily measuredFamily familyBytes writeType writeCanonical writeImport measuredType measuredImport writeRow stored
 family-written family row pool body at size e h =
     go (eqb family 7) (eqb family 8) ∙ ap (λ a. stored a (familyBytes family pool row) body at) e ∙ simp (le-leb _ _ h)
   where

@@ -20,14 +20,13 @@ use Rattle.fields.specs.declared.Leaf.the-variants.{Fine, Bad}
 use Rattle.fields.specs.Binary.{pick, word}
 use Rattle.fields.specs.Write as leaves
 use Rattle.sections.specs.declared.Phase.the-variants.{Closed}
-use Rattle.sections.specs.declared.Section.{Section}
 use Rattle.sections.specs.Section.{knownFamily, sounds}
 use Rattle.sections.specs.Finish.{framing, finishing}
 use Rattle.sections.proofs.FrameLaws.{frame-size, frame-fits}
 use Rattle.sheets.specs.Frame.{Rows, Are, Broken, poolLength, poolOf, framed}
 use Rattle.sheets.specs.Sheet.{left, familyOf, tries, joined, section, finished, written, ofRows}
-use Rattle.sheets.specs.Steps.{rest, listed, Found, firstFamily, sectionSize}
-use Rattle.sheets.proofs.FrameLaws.{front, spread, spread-rows, rows-spread}
+use Rattle.sheets.specs.Steps.{rest, listed, RowsAt, firstFamily, sectionSize}
+use Rattle.sheets.proofs.FrameLaws.{front, spread-rows, rows-spread}
 use Rattle.sheets.proofs.SheetLaws.{Tried, tried-all}
 
 -- every kind has a section's family
@@ -52,12 +51,18 @@ rows-are (Are (x ∷ xs)) row later e pool body out =
     (λ y. written (tries (familyOf (word y 0)) pool (length body) (x ∷ xs) 0 0) (familyOf (word y 0)) (joined (familyOf (word y 0)) pool (x ∷ xs)) body out)
     same
 
+-- a sheet whose frame is whole, the family of its first row, and its pool
+pub record Sheet (s : List ℕ) (start family : ℕ) (pool : List ℕ) : Type 0 where
+  pub found : RowsAt s start
+  pub short : length s ≤ 65536
+  pub first : family ≡ firstFamily s start
+  pub before : pool ≡ poolOf s
+
 -- the pool is what stands before the rows
-pub pool-is : (s : List ℕ) (start : ℕ) → Found s start → take (start - 5) (drop 5 s) ≡ poolOf s
+pub pool-is : (s : List ℕ) (start : ℕ) → RowsAt s start → take (start - 5) (drop 5 s) ≡ poolOf s
 pool-is s start found = let e : start - 5 ≡ poolLength s = omega (arith, found .place) in ap (λ k. take k (drop 5 s)) e
 
-module _ (s : List ℕ) (start : ℕ) (found : Found s start) (family : ℕ) (ef : family ≡ firstFamily s start) (pool : List ℕ)
-    (ep : pool ≡ poolOf s) (body out : List ℕ) where
+module _ {s : List ℕ} {start family : ℕ} {pool : List ℕ} (sheet : Sheet s start family pool) (body out : List ℕ) where
   abbrev rows : List (List ℕ)
   rows = listed (rest s start)
 
@@ -69,21 +74,23 @@ module _ (s : List ℕ) (start : ℕ) (found : Found s start) (family : ℕ) (ef
 
   sheet-is : written tried family string body out ≡ ofRows (framed s) (poolOf s) body out
   sheet-is =
-      rw (ef, ep, found .same)
+      let found = sheet .found in
+      rw (sheet .first, sheet .before, found .same)
       (sym (rows-are (rest s start) _ _ (front (found .fills) (found .some) .rows) (poolOf s) body out))
 
   pub sheet-refused : {w : Refusal} {r : ℕ} → Bad w r ≡ tried → left (Refused w r) body out ≡ ofRows (framed s) (poolOf s) body out
   sheet-refused e = ap (λ l. written l family string body out) e ∙ sheet-is
 
-  module _ (short : length s ≤ 65536) {r used : ℕ} (e : Fine r used ≡ tried) where
+  module _ {r used : ℕ} (e : Fine r used ≡ tried) where
     all : Tried family pool (length body) rows 0 0 r used
     all = tried-all family pool (length body) rows 0 0 r used (omega arith) e
 
     -- there are few rows, and no more bytes than a section may have
     pub few : (r ≤ 16384) × (used ≤ 4294967290)
     few =
-        let l = rows-spread s start (found .fills) in
+        let l = rows-spread s start (sheet .found .fills) in
         let k = spread-rows rows in
+        let short = sheet .short in
         (omega (arith, all .count), omega (arith, all .bound))
 
     sheet-fine : finished family r string body out ≡ ofRows (framed s) (poolOf s) body out
@@ -108,7 +115,7 @@ module _ (s : List ℕ) (start : ℕ) (found : Found s start) (family : ℕ) (ef
       unfolding finishing sounds
       finishes =
           let inside : used ≤ length new = omega (arith, all .fits, ap length en ∙ length-sets body 0 string) in
-          let known : knownFamily family ≡ true = rw ef (family-known _) in
+          let known : knownFamily family ≡ true = rw (sheet .first) (family-known _) in
           let back : take used new ≡ string =
           ap (take used) en ∙ ap (λ k. take k (sets body 0 string)) long ∙ sets-back string body 0 (omega (arith, long, all .fits)) in
           let m = length (unsigned r) in

@@ -2,18 +2,18 @@
 use Prim.Native.Nat.{ℕ, zero, suc, _+_, _-_, _*_, _≤_, _<_}
 use native.Mathlib.Numerals.{add-one}
 use native.Mathlib.Omega.{arith}
-use mathlib.Core.Path.{_≡_, refl, sym, ap, _∙_, subst}
+use mathlib.Core.Path.{_≡_, refl, sym, ap, _∙_}
 use mathlib.Core.Bool.{Bool, true, false}
-use mathlib.Core.List.{List, [], _∷_, _++_, append-nil}
+use mathlib.Core.List.{List, [], _∷_, _++_}
 use borrow.Author.Tests.{eqb-true, eqb-false, ltb-true, ltb-false, eq-eqb, ne-eqb, lt-ltb, le-ltb}
 use lib.Dec.{eqb, ltb}
 use lib.ListN.{length, take, set, getD}
 use lib.Seq.{sets}
 use Rattle.numbers.proofs.BytesLaws.{sets-append, sets-back}
-use Rattle.fields.specs.Binary.{pick, word}
+use Rattle.fields.specs.Binary.{word}
 use Rattle.sheets.specs.Frame.{Rows, Are, Broken, behind, some, number, words, rowsFrom, framed, poolLength}
 use Rattle.sheets.specs.Sheet.{familyOf}
-use Rattle.sheets.specs.Steps.{rest, whole, listed, Framed, Found, firstFamily}
+use Rattle.sheets.specs.Steps.{rest, whole, listed, Framed, RowsAt, firstFamily}
 
 -- ---- words
 
@@ -55,10 +55,10 @@ module _ (s : List ℕ) (start n : ℕ) (en : n ≡ number s start) where
   family-of h kind ek = ap familyOf (ek ∙ sym (first-word s (start + 4) n h) ∙ ap (λ k. word (words s (start + 4) k) 0) en)
 
 -- words that were laid out at the front of a row are the row's front
-pub laid-out : (s row : List ℕ) (at n : ℕ) → n ≤ length row → take n (sets row 0 (words s at n)) ≡ words s at n
-laid-out s row at n h =
+pub laid-out : (s first row : List ℕ) (at n : ℕ) → row ≡ sets first 0 (words s at n) → n ≤ length first → take n row ≡ words s at n
+laid-out s first row at n e h =
     let l = words-length s at n in
-    ap (λ k. take k (sets row 0 (words s at n))) (sym l) ∙ sets-back (words s at n) row 0 (omega arith)
+    ap (take n) e ∙ ap (λ k. take k (sets first 0 (words s at n))) (sym l) ∙ sets-back (words s at n) first 0 (omega arith)
 
 -- ---- rows
 
@@ -251,7 +251,7 @@ module _ (s : List ℕ) where
       pub frame-broken : whole (rest s start) ≡ false → framed s ≡ Broken
       frame-broken e = frame-rows (omega arith) ∙ none-whole (rest s start) e
 
-      pub frame-found : whole (rest s start) ≡ true → Found s start
+      pub frame-found : whole (rest s start) ≡ true → RowsAt s start
       frame-found e =
           let f : Framed s start = record { inside = omega arith; holds = e } in
           record {

@@ -1,5 +1,5 @@
-mod FamilyLaws
-mod FinishLaws
-mod FrameLaws
-mod SheetLaws
+pub mod FamilyLaws
+pub mod FinishLaws
+pub mod FrameLaws
+pub mod SheetLaws
 mod Whole

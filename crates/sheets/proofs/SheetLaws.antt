@@ -1,11 +1,11 @@
 -- The laws of `specs/Sheet.antt`: rows tried one at a time, what is known of rows that were all taken, and their bytes one after the other.
-use Prim.Native.Nat.{ℕ, zero, suc, _+_, _*_, _≤_, _<_}
+use Prim.Native.Nat.{ℕ, _+_, _*_, _≤_, _<_}
 use native.Mathlib.Omega.{arith}
 use mathlib.Core.Path.{_≡_, refl, sym, ap, _∙_, subst}
 use mathlib.Core.Bool.{Bool, true, false}
-use mathlib.Core.List.{List, [], _∷_, _++_}
-use borrow.Author.Tests.{le-leb, lt-leb, leb-true, leb-false}
-use lib.Dec.{eqb, leb}
+use mathlib.Core.List.{List, [], _∷_}
+use borrow.Author.Tests.{le-leb, lt-leb, leb-true}
+use lib.Dec.{leb}
 use lib.ListN.{length, length-append}
 use lib.Seq.{sets}
 use Rattle.numbers.proofs.BytesLaws.{sets-append}
@@ -21,7 +21,8 @@ use Rattle.fields.specs.Write as leaves
 use Rattle.fields.proofs.WroteLaws.{same-size}
 use Rattle.sections.specs.Section.{writeFamily}
 use Rattle.sheets.specs.Frame.{number, words}
-use Rattle.sheets.specs.Sheet.{measureFamily, familyBytes, tried, tries, joined}
+use Rattle.sections.specs.Section.{measuredFamily, familyBytes}
+use Rattle.sheets.specs.Sheet.{tried, tries, joined}
 use Rattle.sheets.specs.Steps.{rest, listed, Framed, Fits, Passed}
 use Rattle.sheets.proofs.FamilyLaws.{family-row, family-written}
 use Rattle.sheets.proofs.FrameLaws.{past, front, no-more, spread}
@@ -48,12 +49,12 @@ module _ (family : ℕ) (pool : List ℕ) (room : ℕ) (s : List ℕ) (start : �
     try-end h = sym (t .same ∙ ap (λ rows. all rows r used) (no-more (t .framed) h))
 
     -- one row more, and its answer
-    module _ (h : at < length s) {n : ℕ} (en : n ≡ number s at) {a : Answer} (ea : a ≡ measureFamily family (words s (at + 4) n) pool) where
+    module _ (h : at < length s) {n : ℕ} (en : n ≡ number s at) {a : Answer} (ea : a ≡ measuredFamily family (words s (at + 4) n) pool) where
       turn : all (listed (rest s start)) 0 0 ≡ tried a room used r (λ u. all (listed (rest s (past s at))) (r + 1) u)
       unfolding tries
       turn =
           t .same ∙ ap (λ rows. all rows r used) (front (t .framed) h .rows)
-          ∙ ap (λ k. tried (measureFamily family (words s (at + 4) k) pool) room used r (λ u. all (listed (rest s (past s at))) (r + 1) u)) (sym en)
+          ∙ ap (λ k. tried (measuredFamily family (words s (at + 4) k) pool) room used r (λ u. all (listed (rest s (past s at))) (r + 1) u)) (sym en)
           ∙ ap (λ x. tried x room used r (λ u. all (listed (rest s (past s at))) (r + 1) u)) (sym ea)
 
       pub try-refused : {w : Refusal} {v : ℕ} → a ≡ Refused w v → Bad w r ≡ all (listed (rest s start)) 0 0
@@ -89,9 +90,9 @@ module _ (family : ℕ) (pool : List ℕ) (room : ℕ) where
 
   took : (row : List ℕ) (rows : List (List ℕ)) (r used : ℕ) → Passed (each (row ∷ rows) r used) → Took row rows r used
   unfolding tries
-  took row rows r used p = go (measureFamily family row pool) refl p
+  took row rows r used p = go (measuredFamily family row pool) refl p
     where
-      go : (a : Answer) → measureFamily family row pool ≡ a → Passed (tried a room used r (λ u. each rows (r + 1) u)) → Took row rows r used
+      go : (a : Answer) → measuredFamily family row pool ≡ a → Passed (tried a room used r (λ u. each rows (r + 1) u)) → Took row rows r used
       go (Refused w n) e p = absurd p
       go (Size m) e p = room-for (leb (used + m) room) refl p
         where

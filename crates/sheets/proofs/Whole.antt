@@ -15,16 +15,17 @@ use Rattle.fields.specs.Walk.{walk, outs}
 use Rattle.fields.specs.Write.{sized, measured}
 use Rattle.types.specs.Write.{measuredType}
 use Rattle.sheets.specs.Frame.{number, words, rowsFrom, framed}
-use Rattle.sheets.specs.Sheet.{left, familyOf, measureFamily, familyBytes, tries, joined, finished, sheeted}
+use Rattle.sections.specs.Section.{measuredFamily, familyBytes}
+use Rattle.sheets.specs.Sheet.{left, familyOf, tries, joined, finished, sheeted}
 
 abbrev input : List ℕ
 input = 1 ∷ 0 ∷ 0 ∷ 0 ∷ 0 ∷ 0 ∷ 0 ∷ 0 ∷ 2 ∷ 0 ∷ 0 ∷ 0 ∷ 0 ∷ 0 ∷ 0 ∷ 0 ∷ 12 ∷ []
 
 whole-case : sheeted input (9 ∷ 9 ∷ []) (8 ∷ 8 ∷ 8 ∷ 8 ∷ 8 ∷ []) ≡ left (Size 4) (0x73 ∷ 9 ∷ []) (0x07 ∷ 0x02 ∷ 0x01 ∷ 0x73 ∷ 8 ∷ [])
-unfolding bytesOf primvaltype bytes wide flaw judge measuredRow rowBytes repeated seq widths rowWidth shapeIn view walk outs sized measured measuredType number words rowsFrom framed familyOf measureFamily familyBytes tries joined finished sheeted
+unfolding bytesOf primvaltype bytes wide flaw judge measuredRow rowBytes repeated seq widths rowWidth shapeIn view walk outs sized measured measuredType number words rowsFrom framed familyOf measuredFamily familyBytes tries joined finished sheeted
 whole-case = refl
 
 -- without room for the section: ROOM at row 1
 short-output : sheeted input (9 ∷ 9 ∷ []) (8 ∷ 8 ∷ 8 ∷ []) ≡ left (Refused refusal.Room 1) (9 ∷ 9 ∷ []) (8 ∷ 8 ∷ 8 ∷ [])
-unfolding bytesOf primvaltype bytes wide flaw judge measuredRow rowBytes repeated seq widths rowWidth shapeIn view walk outs sized measured measuredType number words rowsFrom framed familyOf measureFamily familyBytes tries joined finished sheeted
+unfolding bytesOf primvaltype bytes wide flaw judge measuredRow rowBytes repeated seq widths rowWidth shapeIn view walk outs sized measured measuredType number words rowsFrom framed familyOf measuredFamily familyBytes tries joined finished sheeted
 short-output = refl

@@ -13,11 +13,8 @@ use Rattle.fields.specs.declared.Refusal.the-variants as refusal
 use Rattle.fields.specs.declared.Leaf.{Leaf}
 use Rattle.fields.specs.declared.Leaf.the-variants.{Fine, Bad}
 use Rattle.fields.specs.Binary.{pick, word}
-use Rattle.fields.specs.Row.{rowBytes}
-use Rattle.types.specs.Write as types
-use Rattle.imports.specs.Write as imports
-use Rattle.canonicals.specs.Write as canonicals
 use Rattle.sections.specs.Finish as finish
+use Rattle.sections.specs.Section.{measuredFamily, familyBytes}
 use Rattle.sheets.specs.Frame.{Rows, Are, Broken, framed, poolOf}
 
 -- what the routine leaves: its answer, the body and the output
@@ -36,17 +33,6 @@ refuse w n body out = left (Refused w n) body out
 unfoldable pub familyOf : ℕ → ℕ
 familyOf kind = pick (leb 256 kind) 8 (pick (eqb kind 17) 10 7)
 
--- the size and the bytes of a row of a family
-unfoldable pub measureFamily : ℕ → List ℕ → List ℕ → Answer
-measureFamily family row pool =
-    pick (eqb family 7) (types.measuredType row pool)
-    (pick (eqb family 8) (canonicals.measuredCanonical row pool) (imports.measuredImport row pool))
-
-unfoldable pub familyBytes : ℕ → List ℕ → List ℕ → List ℕ
-familyBytes family pool row =
-    pick (eqb family 7) (rowBytes (types.shapeOf (word row 0)) pool row)
-    (pick (eqb family 8) (canonicals.canonicalBytes pool row) (rowBytes (imports.shapeOf (word row 0)) pool row))
-
 -- a row's answer, with `used` of `room` bytes taken and r rows before it
 abbrev pub tried : Answer → ℕ → ℕ → ℕ → (ℕ → Leaf) → Leaf
 tried (Size m) room used r go = pick (leb (used + m) room) (go (used + m)) (Bad refusal.Room r)
@@ -56,7 +42,7 @@ tried (Refused w n) room used r go = Bad w r
 unfoldable pub tries : ℕ → List ℕ → ℕ → List (List ℕ) → ℕ → ℕ → Leaf
 tries family pool room [] r used = Fine r used
 tries family pool room (row ∷ rows) r used =
-    tried (measureFamily family row pool) room used r (λ u. tries family pool room rows (r + 1) u)
+    tried (measuredFamily family row pool) room used r (λ u. tries family pool room rows (r + 1) u)
 
 -- their bytes
 unfoldable pub joined : ℕ → List ℕ → List (List ℕ) → List ℕ

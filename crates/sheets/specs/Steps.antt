@@ -12,7 +12,8 @@ use Rattle.fields.specs.Binary.{word}
 use Rattle.sheets.specs.declared.Framing.{Framing}
 use Rattle.sheets.specs.declared.Framing.the-variants as framing
 use Rattle.sheets.specs.Frame.{Rows, Are, Broken, number, words, rowsFrom, framed, poolLength}
-use Rattle.sheets.specs.Sheet.{familyOf, measureFamily}
+use Rattle.sections.specs.Section.{measuredFamily}
+use Rattle.sheets.specs.Sheet.{familyOf}
 
 -- the rows from `at` to the end
 abbrev pub rest : List ℕ → ℕ → Rows
@@ -33,14 +34,14 @@ pub record Framed (s : List ℕ) (at : ℕ) : Type 0 where
   pub holds : whole (rest s at) ≡ true
 
 -- the rows behind the pool, of which there is one
-pub record Found (s : List ℕ) (start : ℕ) : Type 0 where
+pub record RowsAt (s : List ℕ) (start : ℕ) : Type 0 where
   pub place : start ≡ 5 + poolLength s
   pub some : start < length s
   pub fills : Framed s start
   pub same : framed s ≡ rest s start
 
 abbrev pub Starts : Framing → List ℕ → Type 0
-Starts (framing.At start) s = Found s start
+Starts (framing.At start) s = RowsAt s start
 Starts framing.Broken s = framed s ≡ Broken
 
 -- the family of the row at `start`
@@ -50,10 +51,10 @@ firstFamily s start = familyOf (word (words s (start + 4) (number s start)) 0)
 -- the row is taken, with room for it where `used` of `room` bytes are
 pub record Fits (family : ℕ) (row pool : List ℕ) (room used : ℕ) : Type 0 where
   pub size : ℕ
-  pub measures : measureFamily family row pool ≡ Size size
+  pub measures : measuredFamily family row pool ≡ Size size
   pub fits : used + size ≤ room
 
--- all rows are
+-- all rows are taken
 abbrev pub Passed : Leaf → Type 0
 Passed (Fine r used) = Unit {0}
 Passed (Bad w r) = ⊥

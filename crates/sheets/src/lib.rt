@@ -10,8 +10,9 @@ ghost use lib.ListN.{length};
 ghost use lib.Seq.{sets};
 ghost use Rattle.fields.specs.Run.{Wrote};
 ghost use Rattle.sheets.specs.Frame.{number, words, framed, poolOf};
-ghost use Rattle.sheets.specs.Sheet.{left, measureFamily, familyBytes, tries, joined, ofRows, sheeted};
-ghost use Rattle.sheets.specs.Steps.{rest, whole, listed, Framed, Found, Starts, firstFamily, Fits, Passed, sectionSize};
+ghost use Rattle.sections.specs.Section.{measuredFamily, familyBytes};
+ghost use Rattle.sheets.specs.Sheet.{left, tries, joined, ofRows, sheeted};
+ghost use Rattle.sheets.specs.Steps.{rest, whole, listed, Framed, RowsAt, Starts, firstFamily, Fits, Passed, sectionSize};
 
 // Where a sheet's rows start.
 enum Framing {
@@ -103,7 +104,7 @@ fn family_at(input: &[u8], start: usize) -> u32
 
 // The size of a row of a family, or why it is refused, room apart.
 fn measure_by(family: u32, row: &[u32], pool: &[u8]) -> Answer
-    ensures { λ r. ⌜ r ≡ measureFamily family (now (row .entry)) (now (pool .entry)) ⌝ }
+    ensures { λ r. ⌜ r ≡ measuredFamily family (now (row .entry)) (now (pool .entry)) ⌝ }
 {
     if family == 7 {
         return types::measure(row, pool);
@@ -125,7 +126,7 @@ fn measure_at(
 ) -> Answer
     requires { ⌜ at + 4 * n ≤ length (now input) ⌝ }
     requires { ⌜ n ≤ length (now scratch) ⌝ }
-    ensures { λ r. ⌜ r ≡ measureFamily family (words (now (input .entry)) at n) (now (pool .entry)) ⌝ }
+    ensures { λ r. ⌜ r ≡ measuredFamily family (words (now (input .entry)) at n) (now (pool .entry)) ⌝ }
 {
     fill_words(input, at, n, scratch);
     measure_by(family, &scratch[..n], pool)
@@ -223,7 +224,7 @@ fn section_size(rows: u32, used: usize) -> usize
 
 // The rows tried, body and output room included, and only then written and finished.
 fn sheet_rows(input: &[u8], start: usize, body: &mut [u8], out: &mut [u8]) -> Answer
-    requires { ⌜ Found (now input) start ⌝ }
+    requires { ⌜ RowsAt (now input) start ⌝ }
     requires { ⌜ length (now input) ≤ 65536 ⌝ }
     ensures { λ r. ⌜ left r (now (body .exit)) (now (out .exit)) ≡ ofRows (framed (now (input .entry))) (poolOf (now (input .entry))) (now (body .entry)) (now (out .entry)) ⌝ }
 {

@@ -1,9 +1,7 @@
 -- `family_at` meets its contract: a row of no words has no kind, as if its kind were 0; else its kind is its first word.
 use native.Mathlib.Omega.{arith}
-use mathlib.Core.Path.{_≡_, sym, _∙_}
 use borrow.Author.Needs.{needs}
 use borrow.Author.Tests.{eq-eqb, ne-eqb, le-leb, lt-leb}
-use denote.Ref.{now}
 use Rattle.sheets.specs.Sheet.{familyOf}
 use Rattle.sheets.proofs.FrameLaws.{family-none, family-of, front}
 use Rattle.sheets.proofs.family_at.Statement.{statement}

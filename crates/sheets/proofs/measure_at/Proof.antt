@@ -1,11 +1,10 @@
 -- `measure_at` meets its contract: the row that is measured is the words that were laid out.
 use native.Mathlib.Omega.{arith}
-use mathlib.Core.Path.{_≡_, sym, ap, _∙_}
+use mathlib.Core.Path.{sym, ap, _∙_}
 use borrow.Author.Needs.{needs}
 use denote.Ref.{now}
-use lib.ListN.{take}
 use lib.Seq.{length-take-le}
-use Rattle.sheets.specs.Sheet.{measureFamily}
+use Rattle.sections.specs.Section.{measuredFamily}
 use Rattle.sheets.proofs.FrameLaws.{laid-out}
 use Rattle.sheets.proofs.measure_at.Statement.{statement}
 use Rattle.sheets.proofs.measure_at.Tie as tie
@@ -30,8 +29,8 @@ returns c =
     let f = c .before .before .before .before in
     let a = f .before .before .before .before .before .args in
     c .measure-by .ensures
-    ∙ ap (λ row. measureFamily (a .family) row (now (a .pool)))
-    (ap (take (a .n)) (f .fill-words .ensures) ∙ laid-out (now (a .input)) (now (a .scratch)) (a .at) (a .n) (omega arith))
+    ∙ ap (λ row. measuredFamily (a .family) row (now (a .pool)))
+    (laid-out (now (a .input)) (now (a .scratch)) _ (a .at) (a .n) (f .fill-words .ensures) (omega arith))
 
 pub measure-at-spec : {M : Type 1} → statement M
 measure-at-spec =

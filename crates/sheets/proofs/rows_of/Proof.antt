@@ -1,9 +1,8 @@
 -- `rows_of` meets its contract: for each way out, what the frame is there.
 use Prim.Native.Nat.{_+_}
 use native.Mathlib.Omega.{arith}
-use mathlib.Core.Path.{_≡_, sym, ap, _∙_}
+use mathlib.Core.Path.{sym, ap, _∙_}
 use borrow.Author.Needs.{needs}
-use denote.Ref.{now}
 use Rattle.sheets.proofs.FrameLaws.{frame-cut, frame-version, frame-empty, frame-broken, frame-found}
 use Rattle.sheets.proofs.rows_of.Statement.{statement}
 use Rattle.sheets.proofs.rows_of.Tie as tie

@@ -1,7 +1,7 @@
 -- `section_size` meets its contract: a number has at most five bytes, so nothing passes 32 bits.
 use Prim.Native.Nat.{ℕ, _+_}
 use native.Mathlib.Omega.{arith}
-use mathlib.Core.Path.{_≡_, ap, _∙_}
+use mathlib.Core.Path.{ap, _∙_}
 use borrow.Author.Needs.{needs}
 use lib.ListN.{length}
 use Rattle.numbers.specs.Leb.{unsigned}

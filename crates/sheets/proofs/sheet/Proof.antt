@@ -1,9 +1,9 @@
 -- `sheet` meets its contract: a sheet too long, one whose frame is broken, and one whose rows are tried.
-use mathlib.Core.Path.{_≡_, sym, ap, _∙_, subst}
+use mathlib.Core.Path.{subst}
 use borrow.Author.Needs.{needs}
 use borrow.Author.Tests.{lt-ltb, le-ltb}
 use denote.Ref.{now}
-use Rattle.sheets.specs.Sheet.{ofRows, sheeted}
+use Rattle.sheets.specs.Sheet.{sheeted}
 use Rattle.sheets.specs.Steps.{Starts}
 use Rattle.sheets.proofs.sheet.Statement.{statement}
 use Rattle.sheets.proofs.sheet.Tie as tie

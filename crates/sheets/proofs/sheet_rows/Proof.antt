@@ -1,13 +1,26 @@
 -- `sheet_rows` meets its contract: for each way out, what the sheet comes to there.
+use Prim.Native.Nat.{_-_}
 use native.Mathlib.Omega.{arith}
-use mathlib.Core.Path.{_≡_, sym, ap, _∙_, subst}
+use mathlib.Core.Path.{sym, _∙_, subst}
 use borrow.Author.Needs.{needs}
 use denote.Ref.{now}
-use lib.ListN.{take}
+use lib.ListN.{take, drop}
 use Rattle.sheets.specs.Steps.{Passed}
-use Rattle.sheets.proofs.FinishLaws.{pool-is, sheet-refused, few, sheet-cramped, sheet-finished}
+use Rattle.sheets.proofs.FinishLaws.{Sheet, pool-is, sheet-refused, few, sheet-cramped, sheet-finished}
 use Rattle.sheets.proofs.sheet_rows.Statement.{statement}
 use Rattle.sheets.proofs.sheet_rows.Tie as tie
+
+-- the sheet whose rows are tried
+here : (c : tie.After-try-rows) → let a = c .before .before .before .before .before .before .before .args in
+    Sheet (now (a .input)) (a .start) (c .before .before .before .family-at .result) (take (a .start - 5) (drop 5 (now (a .input))))
+here c =
+    let start = c .before .before .before .before .before .before .before in
+    record {
+      found = start .pre .0;
+      short = start .pre .1;
+      first = c .before .before .before .family-at .ensures;
+      before = pool-is _ _ (start .pre .0);
+    }
 
 family-at-requires : tie.Need-family-at-requires
 family-at-requires c κs = search needs
@@ -33,27 +46,21 @@ enum-known-rows c = search needs
 cast-count : tie.Need-cast-count
 cast-count c =
     let t = c .before .before .before .before in
-    let start = t .before .before .before .before .before .before .before in
-    omega (
-      arith,
-      few _ _ (start .pre .0) _ (t .before .before .before .family-at .ensures) _ (pool-is _ _ (start .pre .0)) (now (start .args .body)) (now (start .args .out))
-          (start .pre .1) (sym (c .before .rows .given .1) ∙ t .try-rows .ensures),
-    )
+    let a = t .before .before .before .before .before .before .before .args in
+    omega (arith, few (here t) (now (a .body)) (now (a .out)) (sym (c .before .rows .given .1) ∙ t .try-rows .ensures))
 
 section-size-requires : tie.Need-section-size-requires
 section-size-requires c κs =
     let t = c .before .before .before .before in
-    let start = t .before .before .before .before .before .before .before in
-    few _ _ (start .pre .0) _ (t .before .before .before .family-at .ensures) _ (pool-is _ _ (start .pre .0)) (now (start .args .body)) (now (start .args .out))
-    (start .pre .1) (sym (c .before .rows .given .1) ∙ t .try-rows .ensures) .1
+    let a = t .before .before .before .before .before .before .before .args in
+    few (here t) (now (a .body)) (now (a .out)) (sym (c .before .rows .given .1) ∙ t .try-rows .ensures) .1
 
 returns : tie.Need-returns
 returns c =
     let t = c .before .before .before .before .before .before in
-    let start = t .before .before .before .before .before .before .before in
+    let a = t .before .before .before .before .before .before .before .args in
     let size = c .before .section-size .ensures in
-    sheet-cramped _ _ (start .pre .0) _ (t .before .before .before .family-at .ensures) _ (pool-is _ _ (start .pre .0)) (now (start .args .body)) (now (start .args .out))
-    (start .pre .1) (sym (c .before .before .before .rows .given .1) ∙ t .try-rows .ensures) (omega arith)
+    sheet-cramped (here t) (now (a .body)) (now (a .out)) (sym (c .before .before .before .rows .given .1) ∙ t .try-rows .ensures) (omega arith)
 
 slice-aggregate-write-rows : tie.Need-slice-aggregate-write-rows
 slice-aggregate-write-rows c = search needs
@@ -61,8 +68,7 @@ slice-aggregate-write-rows c = search needs
 write-rows-requires : tie.Need-write-rows-requires
 write-rows-requires c κs =
     let t = c .before .before .before .before .before .before .before .before in
-    let start = t .before .before .before .before .before .before .before in
-    (start .pre .0 .fills, (omega arith, subst Passed (sym (c .before .before .before .before .before .rows .given .1) ∙ t .try-rows .ensures) tt))
+    (here t .found .fills, (omega arith, subst Passed (sym (c .before .before .before .before .before .rows .given .1) ∙ t .try-rows .ensures) tt))
 
 finish-requires : tie.Need-finish-requires
 finish-requires c κs = search needs
@@ -79,17 +85,16 @@ same-length-2 c = search needs
 returns-2 : tie.Need-returns-2
 returns-2 c =
     let t = c .before .before .before .before .before .before .before .before .before .before .before .before .before .before .before .before .before in
-    let start = t .before .before .before .before .before .before .before in
+    let a = t .before .before .before .before .before .before .before .args in
     let size = c .before .before .before .before .before .before .before .before .before .before .before .before .section-size .ensures in
-    sheet-finished _ _ (start .pre .0) _ (t .before .before .before .family-at .ensures) _ (pool-is _ _ (start .pre .0)) (now (start .args .body)) (now (start .args .out))
-    (start .pre .1) (sym (c .before .before .before .before .before .before .before .before .before .before .before .before .before .before .rows .given .1) ∙ t .try-rows .ensures) (omega arith) (c .before .before .before .before .before .before .before .before .write-rows .ensures) (c .before .before .finish .ensures)
+    sheet-finished (here t) (now (a .body)) (now (a .out)) (sym (c .before .before .before .before .before .before .before .before .before .before .before .before .before .before .rows .given .1) ∙ t .try-rows .ensures) (omega arith)
+    (c .before .before .before .before .before .before .before .before .write-rows .ensures) (c .before .before .finish .ensures)
 
 returns-3 : tie.Need-returns-3
 returns-3 c =
     let t = c .before .before .before .before in
-    let start = t .before .before .before .before .before .before .before in
-    sheet-refused _ _ (start .pre .0) _ (t .before .before .before .family-at .ensures) _ (pool-is _ _ (start .pre .0)) (now (start .args .body)) (now (start .args .out))
-    (sym (c .before .why .given .1) ∙ t .try-rows .ensures)
+    let a = t .before .before .before .before .before .before .before .args in
+    sheet-refused (here t) (now (a .body)) (now (a .out)) (sym (c .before .why .given .1) ∙ t .try-rows .ensures)
 
 pub sheet-rows-spec : {M : Type 1} → statement M
 sheet-rows-spec =

@@ -1,11 +1,12 @@
 -- `try_rows` meets its contract. The loop's invariant is `Trying`: the rows from here come to what all come to. The measure is how many
 -- bytes are left.
-use Prim.Native.Nat.{_-_}
+use Prim.Native.Nat.{_-_, _≤_}
 use native.Mathlib.Omega.{arith}
-use mathlib.Core.Path.{_≡_, refl, _∙_}
+use mathlib.Core.Path.{_≡_, refl}
 use borrow.Author.Needs.{needs}
+use denote.Ref.{now}
 use lib.ListN.{length}
-use Rattle.sheets.proofs.FrameLaws.{front}
+use Rattle.sheets.proofs.FrameLaws.{past, front}
 use Rattle.sheets.proofs.SheetLaws.{Trying, try-start, try-end, try-refused, try-cramped, try-next}
 use Rattle.sheets.proofs.try_rows.Statement.{statement}
 use Rattle.sheets.proofs.try_rows.Tie as tie
@@ -17,30 +18,27 @@ Inv-loop input start family pool scratch₀ room at₀ rows₀ used₀ scratch a
 abbrev μ-loop : tie.MeasureT-loop
 μ-loop input start family pool scratch₀ room at₀ rows₀ used₀ scratch at rows used = length input - at
 
+-- the row here is whole
+row-fits : (c : tie.In-loop Inv-loop μ-loop) → let input = now (c .before .before .before .before .before .args .input) in past input (c .before .loop .at) ≤ length input
+row-fits c = front (c .before .loop .inv .1 .framed) (c .loop-test .taken) .fits
+
 loop-holds : tie.Need-loop-holds Inv-loop μ-loop
 loop-holds c =
     let start = c .before .before .before in
     (refl, try-start _ _ _ _ _ (start .pre .0))
 
 number-at-requires : tie.Need-number-at-requires Inv-loop μ-loop
-number-at-requires c κs =
-    let l = c .before in
-    let row = front (l .loop .inv .1 .framed) (c .loop-test .taken) .fits in
-    omega arith
+number-at-requires c κs = omega (arith, row-fits c)
 
 cast-n : tie.Need-cast-n Inv-loop μ-loop
 cast-n c = search needs
 
 add-measure-at : tie.Need-add-measure-at Inv-loop μ-loop
-add-measure-at c =
-    let l = c .before .before in
-    let row = front (l .loop .inv .1 .framed) (c .before .loop-test .taken) .fits in
-    omega arith
+add-measure-at c = omega (arith, row-fits (c .before))
 
 measure-at-requires : tie.Need-measure-at-requires Inv-loop μ-loop
 measure-at-requires c κs =
-    let l = c .before .before .before in
-    let row = front (l .loop .inv .1 .framed) (c .before .before .loop-test .taken) .fits in
+    let row = row-fits (c .before .before) in
     let n = c .before .number-at .ensures in
     (omega arith, omega arith)
 
@@ -53,7 +51,7 @@ sub-if1 c =
     omega arith
 
 same-length : tie.Need-same-length Inv-loop μ-loop
-same-length c = c .before .before .before .before .before .scratch .given ∙ c .before .before .before .before .before .before .before .before .before .before .loop .inv .0
+same-length c = omega arith
 
 returns : tie.Need-returns Inv-loop μ-loop
 returns c =
@@ -87,32 +85,16 @@ add-rows c =
     omega arith
 
 mul-at : tie.Need-mul-at Inv-loop μ-loop
-mul-at c =
-    let l = c .before .before .before .before .before .before .before .before .before .before in
-    let row = front (l .loop .inv .1 .framed) (c .before .before .before .before .before .before .before .before .before .loop-test .taken) .fits in
-    let n = c .before .before .before .before .before .before .before .before .number-at .ensures in
-    omega arith
+mul-at c = omega (arith, row-fits (c .before .before .before .before .before .before .before .before .before), c .before .before .before .before .before .before .before .before .number-at .ensures)
 
 add-at : tie.Need-add-at Inv-loop μ-loop
-add-at c =
-    let l = c .before .before .before .before .before .before .before .before .before .before in
-    let row = front (l .loop .inv .1 .framed) (c .before .before .before .before .before .before .before .before .before .loop-test .taken) .fits in
-    let n = c .before .before .before .before .before .before .before .before .number-at .ensures in
-    omega arith
+add-at c = omega (arith, row-fits (c .before .before .before .before .before .before .before .before .before), c .before .before .before .before .before .before .before .before .number-at .ensures)
 
 add-at-2 : tie.Need-add-at-2 Inv-loop μ-loop
-add-at-2 c =
-    let l = c .before .before .before .before .before .before .before .before .before .before in
-    let row = front (l .loop .inv .1 .framed) (c .before .before .before .before .before .before .before .before .before .loop-test .taken) .fits in
-    let n = c .before .before .before .before .before .before .before .before .number-at .ensures in
-    omega arith
+add-at-2 c = omega (arith, row-fits (c .before .before .before .before .before .before .before .before .before), c .before .before .before .before .before .before .before .before .number-at .ensures)
 
 loop-less : tie.Need-loop-less Inv-loop μ-loop
-loop-less c =
-    let l = c .before .before .before .before .before .before .before .before .before .before in
-    let row = front (l .loop .inv .1 .framed) (c .before .before .before .before .before .before .before .before .before .loop-test .taken) .fits in
-    let n = c .before .before .before .before .before .before .before .before .number-at .ensures in
-    omega arith
+loop-less c = omega (arith, row-fits (c .before .before .before .before .before .before .before .before .before), c .before .before .before .before .before .before .before .before .number-at .ensures)
 
 loop-again : tie.Need-loop-again Inv-loop μ-loop
 loop-again c =

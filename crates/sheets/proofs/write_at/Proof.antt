@@ -3,7 +3,6 @@ use native.Mathlib.Omega.{arith}
 use mathlib.Core.Path.{_≡_, sym, ap, _∙_}
 use borrow.Author.Needs.{needs}
 use denote.Ref.{now}
-use lib.ListN.{take}
 use lib.Seq.{length-take-le}
 use Rattle.fields.specs.Write.{left}
 use Rattle.sections.specs.Section.{writeFamily}
@@ -38,7 +37,7 @@ written c =
     let a = f .before .before .before .before .before .before .args in
     c .write-by .ensures
     ∙ ap (λ row. writeFamily (a .family) row (now (a .pool)) (now (a .body)) (a .used))
-    (ap (take (a .n)) (f .fill-words .ensures) ∙ laid-out (now (a .input)) (now (a .scratch)) (a .at) (a .n) (omega arith))
+    (laid-out (now (a .input)) (now (a .scratch)) _ (a .at) (a .n) (f .fill-words .ensures) (omega arith))
 
 add-result : tie.Need-add-result
 add-result c =
