@@ -1,2 +1,3 @@
 pub mod LiftLaws
 pub mod Productions
+pub mod Rows
