@@ -8,7 +8,7 @@
 //   grow N             the body is N bytes; those that it had stay
 //   state F U C P S    the state: family, used, count, phase (0 closed, 1 opened, 2 async given, 3 params given), start (0 if closed)
 //   new F              a fresh section's state
-//   row W W ..         these are the steps, with the words they are given
+//   row W W ..         the steps, with the words that they are given
 //   open
 //   async A
 //   params W W ..
@@ -16,7 +16,7 @@
 //   abandon
 //   finish N           into a buffer of N bytes
 //   long KIND N        a row of N words, all 0 after the first
-//   long-params N      params of N words, all 0 after the first, which is N / 4, the number of parameters in N = 1, 5, 9 ..
+//   long-params N      params of N words, all 0 after the first, which is N / 4
 // A step's answer is a line: `ok SIZE` or `refused NUMBER VALUE NAME`; then the state, `family F used U count C phase P start S`; then,
 // if the step was taken, the used part of the body or what was finished; and ` changed` where a refusal did not leave everything as
 // it was, or a step that was taken changed a byte that it does not count. What is none of these, or passes the program's own buffers,
@@ -247,8 +247,8 @@ fn size_in(answer: Answer) -> usize {
     }
 }
 
-// Whether the state is the same where the answer is a refusal.
-fn is_told(answer: Answer, before: Section, after: Section) -> bool {
+// Whether the state is the same, as it has to be after a refusal.
+fn is_state_kept(answer: Answer, before: Section, after: Section) -> bool {
     match answer {
         Answer::Size(_) => true,
         Answer::Refused(_, _) => is_same(before, after),
@@ -282,7 +282,8 @@ fn try_step(step: Step, section: Section, words: &[u32], pool: &[u8], body: &mut
     let turned = take(step, section, words, pool, body);
     let next = turned.section;
     let answer = turned.answer;
-    let kept = is_kept(&old, body, section.used, size_in(answer)) && is_told(answer, section, next);
+    let kept = is_kept(&old, body, section.used, size_in(answer))
+        && is_state_kept(answer, section, next);
     say_step(answer, next, numbers::part(body, 0, next.used), kept);
     next
 }
@@ -390,18 +391,18 @@ fn try_given(step: Step, section: Section, text: &[u8], pool: &[u8], body: &mut 
     try_words(step, section, &words, n, pool, body)
 }
 
-// The row of `long`, whose text is its kind and its number of words.
-fn try_long(section: Section, text: &[u8], pool: &[u8], body: &mut [u8]) -> Section {
+// The step with n words, all 0 after the first.
+fn try_long(
+    step: Step,
+    section: Section,
+    first: u64,
+    n: usize,
+    pool: &[u8],
+    body: &mut [u8],
+) -> Section {
     let mut words = [0u32; WORDS];
-    words[0] = word_of(number_at(text, 1));
-    try_words(Step::Row, section, &words, size_at(text, 2), pool, body)
-}
-
-// The params of `long-params`, whose text is their number of words.
-fn try_long_params(section: Section, text: &[u8], pool: &[u8], body: &mut [u8]) -> Section {
-    let mut words = [0u32; WORDS];
-    words[0] = word_of(number_at(text, 1) / 4);
-    try_words(Step::Params, section, &words, size_at(text, 1), pool, body)
+    words[0] = word_of(first);
+    try_words(step, section, &words, n, pool, body)
 }
 
 // Finishes into a buffer, and prints the line.
@@ -459,6 +460,21 @@ fn after(line: &[u8], n: usize) -> &[u8] {
     } else {
         &line[..0]
     }
+}
+
+// Where a byte stands next from a place on, or the end.
+fn next_of(input: &[u8], from: usize, byte: u8) -> usize
+    requires { ⌜ from ≤ length (now input) ⌝ }
+    ensures { λ r. ⌜ (from ≤ r) × (r ≤ length (now (input .entry))) ⌝ }
+{
+    let mut i = from;
+    while i < input.len() {
+        if input[i] == byte {
+            return i;
+        }
+        i += 1;
+    }
+    i
 }
 
 fn starts_with(line: &[u8], word: &[u8]) -> bool {
@@ -545,10 +561,20 @@ fn act_on(
     pool: &[u8],
     body: &mut [u8],
 ) -> Section {
+    let first = number_at(text, 1);
     match command {
         Command::Take(step) => try_given(step, section, text, pool, body),
-        Command::Long => try_long(section, text, pool, body),
-        Command::LongParams => try_long_params(section, text, pool, body),
+        Command::Long => try_long(Step::Row, section, first, size_at(text, 2), pool, body),
+        Command::LongParams => {
+            try_long(
+                Step::Params,
+                section,
+                first / 4,
+                size_at(text, 1),
+                pool,
+                body,
+            )
+        }
         Command::Finish => {
             try_finish(section, text, body);
             section
@@ -608,21 +634,6 @@ fn obey(line: &[u8], set: Setting, pool: &mut [u8], body: &mut [u8]) -> Setting 
         }
     }
     next
-}
-
-// Where a byte stands next from a place on, or the end.
-fn next_of(input: &[u8], from: usize, byte: u8) -> usize
-    requires { ⌜ from ≤ length (now input) ⌝ }
-    ensures { λ r. ⌜ (from ≤ r) × (r ≤ length (now (input .entry))) ⌝ }
-{
-    let mut i = from;
-    while i < input.len() {
-        if input[i] == byte {
-            return i;
-        }
-        i += 1;
-    }
-    i
 }
 
 // Does what each line of the input says.
