@@ -4,8 +4,11 @@
     python3 tools/sheet_cases.py        writes crates/sheet_cases/stdin and crates/sheet_cases/stdout, and prints the latter
     python3 tools/sheet_cases.py 17     prints case 17 of the list: why it is there, the sheet, the rooms and the answer
 
-The first half is a model of document 01's sheet, written from that document alone: framing, the judging of a row, its bytes,
-the family, the room in body and output, and finishing. The second half makes the sheets; the model answers each. The model is
+The first half is a model of document 01's sheet: framing, the judging of a row, its bytes, the family, the room in body and
+output, and finishing. It follows document 01 and, where that is silent, docs/DECISIONS.md (an empty row is ROW, RANGE also at length
+0, leads that are not listed are KIND), so that agreement says nothing of those decisions. Its table of shapes is laid out as the
+product's is. The model was written before the code was read, some of the cases after.
+The second half makes the sheets; the model answers each. The model is
 tried on document 01's bench table before anything is written. The dice are seeded and are the script's own, so that every run
 writes the same bytes. Python 3.9 or newer; only its standard library is used.
 
