@@ -83,6 +83,14 @@ Byte field.Choice = Unit {0}
 Byte field.ExternName = Unit {0}
 Byte field.Reference = Unit {0}
 
+pub flag-small : (a : ℕ) → flag a ≤ 1
+unfolding flag
+flag-small a = go (eqb a 0)
+  where
+    go : (t : Bool) → pick t 0x00 0x01 ≤ 1
+    go true = omega arith
+    go false = omega arith
+
 module _ (pool : List ℕ) (fp : ByteList pool) (ws : List ℕ) (fw : Words ws) where
   index-bytes : (i : ℕ) → ByteList (unsigned (word ws i))
   index-bytes i = of-bytes (unsigned (word ws i)) (put-bytes u32 (word ws i) (fw i))
@@ -107,14 +115,6 @@ module _ (pool : List ℕ) (fp : ByteList pool) (ws : List ℕ) (fw : Words ws) 
   slot-bytes : (k i : ℕ) → k < 2 ^ 8 → ByteList (slotAt pool ws k i)
   unfolding slotAt
   slot-bytes k i h = pick-bytes (eqb (word ws i) 0) none (some h (name-bytes (i + 1) (i + 2)))
-
-  flag-small : (a : ℕ) → flag a ≤ 1
-  unfolding flag
-  flag-small a = go (eqb a 0)
-    where
-      go : (t : Bool) → pick t 0x00 0x01 ≤ 1
-      go true = omega arith
-      go false = omega arith
 
   extern-bytes : ByteList (externname pool ws)
   unfolding externname slotsAt slots

@@ -1,11 +1,11 @@
 -- The first pass in steps: one field, fields after others, a loop over groups, the count, and the bounds that keep every sum small.
-use Prim.Native.Nat.{ℕ, zero, suc, _+_, _-_, _*_, _^_, _≤_, _<_}
-use native.Mathlib.Nat.{add-zero, suc-mul, add-mul}
+use Prim.Native.Nat.{ℕ, _+_, _*_, _^_, _≤_, _<_}
+use native.Mathlib.Nat.{add-zero, add-mul}
 use native.Mathlib.Omega.{arith}
 use mathlib.Core.Path.{_≡_, refl, sym, ap, _∙_, subst}
 use mathlib.Core.Bool.{true, false}
 use mathlib.Core.List.{List, [], _∷_, _++_}
-use lib.ListN.{length, drop, length-append}
+use lib.ListN.{length, drop}
 use lib.Seq.{getD-drop}
 use Rattle.numbers.specs.Leb.{unsigned}
 use Rattle.numbers.proofs.LebLaws.{size-bounds}
@@ -24,8 +24,10 @@ use Rattle.fields.specs.Shape.{opening, group, closing, repeated, widths
 use Rattle.fields.specs.Write.{judged}
 use Rattle.fields.proofs.FlawLaws.{Placed, flaw-place}
 use Rattle.fields.proofs.SizeLaws.{size-right}
-use Rattle.fields.proofs.WidthLaws.{wide-small, wide-at-most, widths-small, widths-append, repeated-widths, repeated-length}
-use Rattle.fields.proofs.RunLaws.{along-append, along-ends, along-bound, under-more, judged-staged}
+use Rattle.fields.proofs.WidthLaws.{widths-small, repeated-widths, repeated-length}
+use Rattle.fields.proofs.LoopLaws.{Walked, walked-start, walked-next, walked-bad, walked-end}
+use Rattle.fields.proofs.LoopLaws as loop
+use Rattle.fields.proofs.RunLaws.{along-ends, along-bound, under-more, judged-staged}
 
 -- ---- one field, its words ws at `at` of the row
 
@@ -51,11 +53,7 @@ module _ (pool row : List ℕ) where
 
   -- fields after fields are one walk
   pub after-both : (so l m : Leaf) (fs gs : List Field) → l ≡ after so (onward fs) → m ≡ after l (onward gs) → m ≡ after so (onward (fs ++ gs))
-  after-both so l m fs gs el em = em ∙ ap (λ l. after l (onward gs)) el ∙ go so
-    where
-      go : (so : Leaf) → after (after so (onward fs)) (onward gs) ≡ after so (onward (fs ++ gs))
-      go (Fine at made) = sym (along-append (judge pool) fs gs row at made)
-      go (Bad w j) = refl
+  after-both = loop.after-both (judge pool) row
 
   -- each field adds 11 words at most, and 1 + 32770 * 11 bytes
   pub after-bound : length pool ≤ 65536 → (so : Leaf) (fs : List Field) (l : Leaf) → l ≡ after so (onward fs)
@@ -70,56 +68,35 @@ module _ (pool row : List ℕ) where
 
 -- ---- a loop over groups
 
--- with i groups judged, the walk over the rest of n, from here, is the whole
+-- with i groups judged, the walk over the rest of n, from here, is the whole; how far it is, and how much is made
 pub record Groups (pool row : List ℕ) (g : List Field) (n from base i at made : ℕ) : Type 0 where
-  pub count : i ≤ n
+  pub walked : Walked (judge pool) row g n from base i at made
   pub place : at ≤ from + i * widths g
   pub bytes : made ≤ base + (i * length g + 32770 * (i * widths g))
-  pub whole : onward pool row (repeated n g) from base ≡ onward pool row (repeated (n - i) g) at made
 
 module _ (pool row : List ℕ) (g : List Field) (n from base : ℕ) where
   pub groups-start : Groups pool row g n from base 0 from base
-  groups-start =
-      let e : n ≡ n - 0 = omega arith in
-      record {
-        count = omega arith;
-        place = omega arith;
-        bytes = omega arith;
-        whole = ap (λ k. onward pool row (repeated k g) from base) e;
-      }
+  groups-start = record { walked = walked-start (judge pool) row g n from base; place = omega arith; bytes = omega arith }
 
   module _ (i at made : ℕ) (so : Groups pool row g n from base i at made) where
     pub groups-end : n ≤ i → Fine at made ≡ onward pool row (repeated n g) from base
-    unfolding along repeated
-    groups-end h =
-        let e : n - i ≡ 0 = omega arith in
-        sym (so .whole ∙ ap (λ k. onward pool row (repeated k g) at made) e)
+    groups-end = walked-end (judge pool) row g n from base i at made (so .walked)
 
     -- a turn: l is what is judged of one group
     module _ (h : i < n) (l : Leaf) (el : l ≡ onward pool row g at made) where
-      turn : onward pool row (repeated n g) from base ≡ after l (onward pool row (repeated (n - (i + 1)) g))
-      unfolding repeated
-      turn =
-          let e : n - i ≡ suc (n - (i + 1)) = omega arith in
-          so .whole
-          ∙ ap (λ k. onward pool row (repeated k g) at made) e
-          ∙ along-append (judge pool) g (repeated (n - (i + 1)) g) row at made
-          ∙ ap (λ l. after l (onward pool row (repeated (n - (i + 1)) g))) (sym el)
-
       pub groups-next : (a m : ℕ) → length pool ≤ 65536 → l ≡ Fine a m → Groups pool row g n from base (i + 1) a m
       groups-next a m p e =
           let u = subst (λ l. Under l (at + widths g) (made + (length g + 32770 * widths g))) (sym el ∙ e) (along-bound pool g (drop at row) at made p) in
           let w = add-mul i 1 (widths g) in
           let k = add-mul i 1 (length g) in
           record {
-            count = omega arith;
+            walked = walked-next (judge pool) row g n from base i at made (so .walked) h l el a m e;
             place = omega arith;
             bytes = omega arith;
-            whole = turn ∙ ap (λ l. after l (onward pool row (repeated (n - (i + 1)) g))) e;
           }
 
       pub groups-bad : (w : Refusal) (j : ℕ) → l ≡ Bad w j → Bad w j ≡ onward pool row (repeated n g) from base
-      groups-bad w j e = sym (turn ∙ ap (λ l. after l (onward pool row (repeated (n - (i + 1)) g))) e)
+      groups-bad = walked-bad (judge pool) row g n from base i at made (so .walked) h l el
 
 -- ---- the count
 

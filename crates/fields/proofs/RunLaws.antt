@@ -44,12 +44,12 @@ unfolding seq
 seq-append [] gs p = refl
 seq-append (f ∷ fs) gs p = ap (λ q. step f (λ v. q)) (seq-append fs gs p)
 
-outs-last : (s : Side) (fs : List Field) (at : ℕ) (xs : List ℕ) → outs s (seq fs end) at xs ≡ makes (s .look) (s .make) fs at xs
+pub outs-last : (s : Side) (fs : List Field) (at : ℕ) (xs : List ℕ) → outs s (seq fs end) at xs ≡ makes (s .look) (s .make) fs at xs
 unfolding outs seq makes
 outs-last s [] at xs = refl
 outs-last s (f ∷ fs) at xs = ap (λ l. s .make f at xs ++ l) (outs-last s fs (at + took (s .look f xs)) (drop (took (s .look f xs)) xs))
 
-outs-seq : (s : Side) (xs : List ℕ) (fs : List Field) (p : Plan) (at made a m : ℕ) → along (s .look) fs (drop at xs) at made ≡ Fine a m
+pub outs-seq : (s : Side) (xs : List ℕ) (fs : List Field) (p : Plan) (at made a m : ℕ) → along (s .look) fs (drop at xs) at made ≡ Fine a m
     → outs s (seq fs p) at (drop at xs) ≡ makes (s .look) (s .make) fs at (drop at xs) ++ outs s p a (drop a xs)
 unfolding outs seq along makes
 outs-seq s xs [] p at made a m e = let q : at ≡ a = cc in ap (λ n. outs s p n (drop n xs)) q

@@ -32,7 +32,7 @@ pick-small false a b most h g = g
 -- ---- the length of the bytes
 
 -- the bytes of a name that lies in the pool
-inside-length : (pool : List ℕ) (start n : ℕ) → start + n ≤ length pool → length (name pool start n) ≡ length (unsigned n) + n
+pub inside-length : (pool : List ℕ) (start n : ℕ) → start + n ≤ length pool → length (name pool start n) ≡ length (unsigned n) + n
 unfolding name
 inside-length pool start n h = rw (length-append, length-take-le n (drop start pool) (rw length-drop (omega arith)))
 

@@ -1,7 +1,11 @@
 pub mod Binary
+pub mod Fill
 pub mod Judge
+pub mod Mark
+pub mod Read
 pub mod Row
 pub mod Run
+pub mod Scan
 pub mod Shape
 pub mod Size
 pub mod Table

@@ -1,12 +1,17 @@
-// Fields of a row: each judged and put, and the walk over the fields of a shape that serves every kind.
+// Fields of a row: each judged and put, scanned and filled, and the walk over the fields of a shape that serves every kind.
+mod fill;
+pub mod item;
 mod judge;
 mod put;
 pub mod row;
+mod scan;
 mod size;
 mod walk;
 pub mod wall;
 pub mod write;
 
+pub use item::first_of;
+pub use item::read_item;
 pub use row::kind_of;
 pub use row::many_of;
 pub use row::measure_row;
@@ -117,6 +122,14 @@ pub enum Flaw {
 pub enum Leaf {
     Fine(usize, usize),
     Bad(Refusal, usize),
+}
+
+// What a reading call answers.
+pub enum Read {
+    // So many words of the row, and so many bytes taken.
+    Item(usize, usize),
+    // The row is as it was; the number is what document 01 returns with the refusal.
+    Refused(Refusal, usize),
 }
 
 // What a writing call answers.

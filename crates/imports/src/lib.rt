@@ -2,8 +2,11 @@
 use fields::Answer;
 use fields::Field;
 use fields::Found;
+use fields::Read;
 ghost use mathlib.Core.Path.{_≡_};
+ghost use Rattle.fields.specs.Read.{leftRow};
 ghost use Rattle.fields.specs.Write.{left};
+ghost use Rattle.imports.specs.Read.{readImport};
 ghost use Rattle.imports.specs.Write.{shapeOf, measuredImport, writeImport};
 
 // The shape of a kind: an extern name and a reference.
@@ -35,4 +38,12 @@ pub fn write(row: &[u32], pool: &[u8], out: &mut [u8], at: usize) -> Answer
 {
     let shape = shape_of(fields::kind_of(row));
     fields::write_row(shape, row, pool, out, at)
+}
+
+// The import at the front of the input, filled into the row, which names its strings in the input itself (`numbers::part`).
+pub fn read(input: &[u8], grade: u32, row: &mut [u32]) -> Read
+    ensures { λ r. ⌜ leftRow r (now (row .exit)) ≡ readImport grade (now (input .entry)) (now (row .entry)) ⌝ }
+{
+    let shape = shape_of(17);
+    fields::read_item(shape, 17, 1, grade, input, row)
 }

@@ -2,8 +2,11 @@
 use fields::Answer;
 use fields::Field;
 use fields::Found;
+use fields::Read;
 ghost use mathlib.Core.Path.{_≡_};
+ghost use Rattle.fields.specs.Read.{leftRow};
 ghost use Rattle.fields.specs.Write.{left};
+ghost use Rattle.types.specs.Read.{kindOf, leadGrade, readType};
 ghost use Rattle.types.specs.Write.{shapeOf, measuredType, writeType};
 
 // The shape of a kind: a line of the table for each.
@@ -143,4 +146,60 @@ pub fn write(row: &[u32], pool: &[u8], out: &mut [u8], at: usize) -> Answer
 {
     let shape = shape_of(fields::kind_of(row));
     fields::write_row(shape, row, pool, out, at)
+}
+
+// The kind of the items that begin with a byte; 17 is no type's.
+fn kind_of(first: u8) -> u32
+    ensures { λ r. ⌜ r ≡ kindOf first ⌝ }
+{
+    if 0x73 <= first {
+        if first < 0x80 {
+            return 0;
+        }
+        return 17;
+    }
+    match first {
+        0x64 => 0,
+        0x72 => 1,
+        0x71 => 2,
+        0x70 => 3,
+        0x63 => 4,
+        0x67 => 5,
+        0x6f => 6,
+        0x6e => 7,
+        0x6d => 8,
+        0x6b => 9,
+        0x6a => 10,
+        0x69 => 11,
+        0x68 => 12,
+        0x65 => 13,
+        0x66 => 14,
+        0x40 => 15,
+        0x43 => 15,
+        0x3f => 16,
+        _ => 17,
+    }
+}
+
+// The grade of a kind's lead.
+fn lead_grade(kind: u32) -> u32
+    ensures { λ r. ⌜ r ≡ leadGrade kind ⌝ }
+{
+    match kind {
+        4 => 3,
+        5 => 3,
+        13 => 2,
+        14 => 2,
+        _ => 1,
+    }
+}
+
+// The type at the front of the input, filled into the row, which names its strings in the input itself (`numbers::part`).
+pub fn read(input: &[u8], grade: u32, row: &mut [u32]) -> Read
+    ensures { λ r. ⌜ leftRow r (now (row .exit)) ≡ readType grade (now (input .entry)) (now (row .entry)) ⌝ }
+{
+    let kind = kind_of(fields::first_of(input));
+    let shape = shape_of(kind);
+    let lead = lead_grade(kind);
+    fields::read_item(shape, kind, lead, grade, input, row)
 }

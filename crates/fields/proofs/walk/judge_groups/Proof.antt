@@ -26,7 +26,7 @@ judge-two-requires : tie.Need-judge-two-requires Inv-loop μ-loop
 judge-two-requires c κs =
     let start = c .before .before .before .before in
     let inv = c .before .loop .inv in
-    let less = mul-le-mul-right (widths (group (start .args .s))) (inv .count) in
+    let less = mul-le-mul-right (widths (group (start .args .s))) (inv .walked .count) in
     (start .pre .0, (omega arith, omega arith))
 
 enum-known-next : tie.Need-enum-known-next Inv-loop μ-loop

@@ -1,0 +1,303 @@
+-- The reader's second pass in steps: how many words a field fills, one field, the count with its groups, and the fields of a shape, filled
+-- where there is room for all of them.
+use Prim.Native.Nat.{ℕ, _+_, _≤_}
+use native.Mathlib.Omega.{arith}
+use mathlib.Core.Path.{_≡_, refl, sym, ap, _∙_, subst}
+use mathlib.Core.Bool.{Bool, true, false}
+use mathlib.Core.List.{List, [], _∷_, _++_, append-nil}
+use lib.Dec.{eqb, ltb}
+use lib.ListN.{length, drop, length-append}
+use lib.Seq.{sets, drop-drop}
+use Rattle.numbers.specs.Leb.{takeSigned}
+use Rattle.fields.specs.declared.Field.{Field}
+use Rattle.fields.specs.declared.Field.the-variants as field
+use Rattle.fields.specs.declared.Refusal.{Refusal}
+use Rattle.fields.specs.declared.Leaf.{Leaf}
+use Rattle.fields.specs.declared.Leaf.the-variants.{Fine, Bad}
+use Rattle.fields.specs.declared.Shape.{Shape}
+use Rattle.fields.specs.Binary.{pick}
+use Rattle.fields.specs.Fill.{valueIn, index, primitive, fillValue, fillOptional, fillName, fillSlot, fillSlots, fillExtern, fillReference, fill}
+use Rattle.fields.specs.Judge.{wide}
+use Rattle.fields.specs.Read.{reader, scanned, countedScan, countedFill}
+use Rattle.fields.specs.Run.{along, makes, after, Room, Under}
+use Rattle.fields.specs.Scan.{byte, headScan, firstScan, secondScan, scan}
+use Rattle.fields.specs.Shape.{opening, group, closing, repeated, seq, counts, plan, widths}
+use Rattle.fields.specs.View.{view}
+use Rattle.fields.specs.Walk.{end, next, took, outs}
+use Rattle.fields.proofs.LoopLaws.{one-bad}
+use Rattle.fields.proofs.RunLaws.{along-append, makes-append, outs-last, outs-seq}
+use Rattle.fields.proofs.ScanLaws.{Within, scan-within}
+use Rattle.fields.proofs.ScannedLaws.{scans, scans-under, scanned-staged}
+use Rattle.fields.proofs.StoreLaws.{Pass, stored-as, room-past, front-room, both-end, rest-room, joined}
+
+-- ---- how many words a field fills
+
+pick-length : (b : Bool) (x y : List ℕ) (n : ℕ) → length x ≡ n → length y ≡ n → length (pick b x y) ≡ n
+pick-length true x y n h k = h
+pick-length false x y n h k = k
+
+value-length : (bs : List ℕ) → length (fillValue bs) ≡ 2
+unfolding fillValue
+value-length bs =
+    let rest : List ℕ = pick (ltb (byte bs 0) 0x80) (0 ∷ primitive (byte bs 0) ∷ []) (1 ∷ valueIn (takeSigned bs) ∷ []) in
+    pick-length (ltb (byte bs 0) 0x40) (1 ∷ byte bs 0 ∷ []) rest 2 refl
+    (pick-length (ltb (byte bs 0) 0x80) (0 ∷ primitive (byte bs 0) ∷ []) (1 ∷ valueIn (takeSigned bs) ∷ []) 2 refl refl)
+
+optional-length : (present : ℕ) (bs : List ℕ) → length (fillOptional present bs) ≡ 2
+unfolding fillOptional
+optional-length present bs = pick-length (eqb (byte bs 0) present) (fillValue (drop 1 bs)) (2 ∷ 0 ∷ []) 2 (value-length (drop 1 bs)) refl
+
+slot-length : (k at : ℕ) (bs : List ℕ) (l : Leaf) → length (fillSlot k at bs l) ≡ 3
+unfolding fillSlot fillName
+slot-length k at bs (Fine from left) =
+    let none : List ℕ = 0 ∷ 0 ∷ 0 ∷ [] in
+    let some : List ℕ = 1 ∷ fillName at bs (from + 1) in
+    pick-length (eqb left 0) none (pick (eqb (byte bs from) k) some none) 3 refl (pick-length (eqb (byte bs from) k) some none 3 refl refl)
+slot-length k at bs (Bad w j) = refl
+
+extern-length : (g at : ℕ) (bs : List ℕ) → length (fillExtern g at bs) ≡ 11
+unfolding fillExtern fillSlots fillName
+extern-length g at bs =
+    let one = fillSlot 0x00 at bs (headScan g bs) in
+    let two = fillSlot 0x01 at bs (firstScan g bs) in
+    let three = fillSlot 0x02 at bs (secondScan g bs) in
+    omega (
+      arith,
+      length-append one (two ++ three),
+      length-append two three,
+      slot-length 0x00 at bs (headScan g bs),
+      slot-length 0x01 at bs (firstScan g bs),
+      slot-length 0x02 at bs (secondScan g bs),
+    )
+
+reference-length : (bs : List ℕ) → length (fillReference bs) ≡ 3
+unfolding fillReference
+reference-length bs =
+    let bound : List ℕ = 3 ∷ pick (eqb (byte bs 1) 0) (0 ∷ index (drop 2 bs) ∷ []) (1 ∷ 0 ∷ []) in
+    let plain : List ℕ = byte bs 0 ∷ index (drop 1 bs) ∷ 0 ∷ [] in
+    let third : List ℕ = pick (eqb (byte bs 0) 3) bound plain in
+    let second : List ℕ = pick (eqb (byte bs 0) 2) (2 ∷ fillValue (drop 1 bs)) third in
+    pick-length (eqb (byte bs 0) 0) (0 ∷ index (drop 2 bs) ∷ 0 ∷ []) second 3 refl
+    (pick-length (eqb (byte bs 0) 2) (2 ∷ fillValue (drop 1 bs)) third 3 (omega (arith, value-length (drop 1 bs)))
+    (pick-length (eqb (byte bs 0) 3) bound plain 3
+    (omega (arith, pick-length (eqb (byte bs 1) 0) (0 ∷ index (drop 2 bs) ∷ []) (1 ∷ 0 ∷ []) 2 refl refl)) refl))
+
+pub fill-length : (g : ℕ) (f : Field) (at : ℕ) (bs : List ℕ) → length (fill g f at bs) ≡ wide f
+unfolding fill fillName wide
+fill-length g field.Nothing at bs = refl
+fill-length g (field.Fixed b) at bs = refl
+fill-length g field.Primitive at bs = refl
+fill-length g field.Value at bs = value-length bs
+fill-length g field.Optional at bs = optional-length 0x01 bs
+fill-length g field.OptionalThenZero at bs = optional-length 0x01 bs
+fill-length g field.Result at bs = optional-length 0x00 bs
+fill-length g field.Name at bs = refl
+fill-length g field.Index at bs = refl
+fill-length g field.Async at bs = refl
+fill-length g field.Flag at bs = refl
+fill-length g field.Rep at bs = refl
+fill-length g field.OptionalIndex at bs = pick-length (eqb (byte bs 0) 0x00) (0 ∷ 0 ∷ []) (1 ∷ index (drop 1 bs) ∷ []) 2 refl refl
+fill-length g field.Choice at bs = refl
+fill-length g field.ExternName at bs = extern-length g at bs
+fill-length g field.Reference at bs = reference-length bs
+
+module _ (lead g : ℕ) (input : List ℕ) where
+  -- the words of the fields from `at` of the input on
+  abbrev pub fills : List Field → ℕ → List ℕ
+  fills fs at = makes (scan lead g) (fill g) fs at (drop at input)
+
+  -- a walk that ends counts them
+  pub fills-count : (fs : List Field) (at to a m : ℕ) → scans lead g input fs at to ≡ Fine a m → m ≡ to + length (fills fs at)
+  unfolding along makes
+  fills-count [] at to a m e = let q : to ≡ m = cc in omega arith
+  fills-count (f ∷ fs) at to a m e =
+      go (scan lead g f (drop at input)) (scan-within lead g f (drop at input)) e (λ t k. fills-count fs (at + t) (to + k) a m)
+    where
+      go : (l : Leaf) → Within l (length (drop at input)) (wide f)
+          → next l (λ t k. along (scan lead g) fs (drop t (drop at input)) (at + t) (to + k)) at ≡ Fine a m
+          → ((t k : ℕ) → scans lead g input fs (at + t) (to + k) ≡ Fine a m → m ≡ to + k + length (fills fs (at + t)))
+          → m ≡ to + length (fill g f at (drop at input) ++ makes (scan lead g) (fill g) fs (at + took l) (drop (took l) (drop at input)))
+      go (Fine t k) w e ih =
+          let h = ih t k (ap (λ l. along (scan lead g) fs l (at + t) (to + k)) (sym (drop-drop t at input)) ∙ e) in
+          rw (drop-drop t at input)
+          (omega (arith, w .1, fill-length g f at (drop at input), length-append (fill g f at (drop at input)) (fills fs (at + t))))
+      go (Bad w j) b e ih = let z : _≡_ {A = ℕ} 0 1 = cc in absurd (omega arith)
+
+  -- the second pass
+  abbrev pub filler : Pass
+  filler = record { look = scan lead g; make = fill g; xs = input; counts = fills-count }
+
+  -- a walk ends inside the input
+  pub scans-inside : (fs : List Field) (at to a m : ℕ) → at ≤ length input → scans lead g input fs at to ≡ Fine a m → a ≤ length input
+  scans-inside fs at to a m h e =
+      let u = subst (λ l. Under l (length input) (to + widths fs)) e (scans-under lead g input fs at to (length input) h (omega arith)) in
+      u .0
+
+  -- ---- one field
+
+  module _ (f : Field) (at to n : ℕ) (room : Room (scans lead g input (f ∷ []) at to) n) where
+    pub one-room : to + wide f ≤ n
+    unfolding along
+    one-room = go (scan lead g f (drop at input)) (scan-within lead g f (drop at input)) room
+      where
+        go : (l : Leaf) → Within l (length (drop at input)) (wide f) → Room (next l (λ t m. Fine (at + t) (to + m)) at) n → to + wide f ≤ n
+        go (Fine t m) w h = omega arith
+        go (Bad w j) b h = absurd h
+
+    pub one-right : (bs : List ℕ) → bs ≡ drop at input → (l : Leaf) → l ≡ scan lead g f bs → (w : Refusal) (j : ℕ) → l ≡ Bad w j → ⊥
+    one-right bs here l el w j e = subst (λ l. Room l n) (sym (one-bad (scan lead g) input f at to bs here l el w j e)) room
+
+  pub one-fills : (f : Field) (at : ℕ) (bs : List ℕ) → bs ≡ drop at input → fill g f at bs ≡ fills (f ∷ []) at
+  unfolding makes
+  one-fills f at bs here = ap (λ l. fill g f at l) here ∙ sym (append-nil (fill g f at (drop at input)))
+
+  -- ---- the count, as many groups, and the closing
+
+  module _ (s : Shape) where
+    -- these fields, with the count at `at`; and what follows the opening
+    abbrev countedFields : ℕ → List Field
+    countedFields at = field.Index ∷ (repeated (index (drop at input)) (group s) ++ closing s)
+
+    abbrev later : ℕ → List Field
+    later at = pick (s .counted) (countedFields at) (closing s)
+
+    counted-along : (at made : ℕ) → countedScan lead g s input at made ≡ scans lead g input (countedFields at) at made
+    unfolding countedScan
+    counted-along at made =
+        let n = index (drop at input) in
+        ap (λ k. after (scans lead g input (field.Index ∷ []) at made) k)
+        (λ i a m. sym (along-append (scan lead g) (repeated n (group s)) (closing s) input a m) i)
+        ∙ sym (along-append (scan lead g) (field.Index ∷ []) (repeated n (group s) ++ closing s) input at made)
+
+    module _ (at to : ℕ) (row : List ℕ) (room : Room (countedScan lead g s input at to) (length row)) (n : ℕ) (en : n ≡ index (drop at input)) where
+      abbrev first : List Field
+      first = field.Index ∷ []
+
+      abbrev groups : List Field
+      groups = repeated n (group s)
+
+      all-room : Room (scans lead g input (first ++ (groups ++ closing s)) at to) (length row)
+      all-room = rw en (subst (λ l. Room l (length row)) (counted-along at to) room)
+
+      pub count-room : Room (scans lead g input first at to) (length row)
+      count-room = front-room filler first (groups ++ closing s) at to row all-room
+
+      module _ (a₁ m₁ : ℕ) (e₁ : scans lead g input first at to ≡ Fine a₁ m₁) {row₁ : List ℕ} (w₁ : row₁ ≡ sets row to (fills first at)) where
+        both-room : Room (scans lead g input (groups ++ closing s) a₁ m₁) (length row₁)
+        both-room = rest-room filler first (groups ++ closing s) at to row all-room a₁ m₁ e₁ w₁
+
+        pub groups-room : Room (scans lead g input groups a₁ m₁) (length row₁)
+        groups-room = front-room filler groups (closing s) a₁ m₁ row₁ both-room
+
+        module _ (a₂ m₂ : ℕ) (e₂ : scans lead g input groups a₁ m₁ ≡ Fine a₂ m₂) {row₂ : List ℕ} (w₂ : row₂ ≡ sets row₁ m₁ (fills groups a₁)) where
+          pub closing-room : Room (scans lead g input (closing s) a₂ m₂) (length row₂)
+          closing-room = rest-room filler groups (closing s) a₁ m₁ row₁ both-room a₂ m₂ e₂ w₂
+
+          pub counted-filled : {row₃ : List ℕ} → row₃ ≡ sets row₂ m₂ (fills (closing s) a₂) → row₃ ≡ sets row to (countedFill lead g s input at)
+          unfolding countedFill
+          counted-filled w =
+              rw (← en)
+              (joined filler first (groups ++ closing s) at to row all-room a₁ m₁ e₁ w₁
+              (joined filler groups (closing s) a₁ m₁ row₁ both-room a₂ m₂ e₂ w₂ w))
+
+    -- ---- the fields of a shape
+
+    later-along : (at made : ℕ)
+        → pick (s .counted) (countedScan lead g s input at made) (scans lead g input (closing s) at made) ≡ scans lead g input (later at) at made
+    unfolding countedScan
+    later-along at made = go (s .counted)
+      where
+        go : (b : Bool) → pick b (countedScan lead g s input at made) (scans lead g input (closing s) at made)
+            ≡ scans lead g input (pick b (countedFields at) (closing s)) at made
+        go true = counted-along at made
+        go false = refl
+
+    -- their words, where the opening ends at a
+    fields-filled : (a m : ℕ) → scans lead g input (opening s) 0 1 ≡ Fine a m
+        → fills (opening s ++ later a) 0 ≡ outs (reader lead g input) (plan s) 0 input
+    unfolding outs makes view fill
+    fields-filled a m e =
+        makes-append (scan lead g) (fill g) (opening s) (later a) input 0 1 a m e
+        ∙ ap (λ l. fills (opening s) 0 ++ l) (sym (rest (s .counted)))
+        ∙ sym (outs-seq (reader lead g input) input (opening s) (pick (s .counted) (counts s) (seq (closing s) end)) 0 1 a m e)
+      where
+        rest : (b : Bool) → outs (reader lead g input) (pick b (counts s) (seq (closing s) end)) a (drop a input)
+            ≡ fills (pick b (countedFields a) (closing s)) a
+        rest true =
+            ap (λ l. (index (drop a input) ∷ []) ++ l)
+            (outs-last (reader lead g input) (repeated (index (drop a input)) (group s) ++ closing s)
+            (a + took (scan lead g field.Index (drop a input)))
+            (drop (took (scan lead g field.Index (drop a input))) (drop a input)))
+        rest false = outs-last (reader lead g input) (closing s) a (drop a input)
+
+    -- what follows the opening has room where the whole has it
+    opening-room : (n : ℕ) → Room (scanned lead g s input) n → Room (scans lead g input (opening s) 0 1) n
+    opening-room n h = go (scans lead g input (opening s) 0 1) (subst (λ l. Room l n) (scanned-staged lead g input s) h)
+      where
+        go : (l : Leaf)
+            → Room (after l (λ at made. pick (s .counted) (countedScan lead g s input at made) (scans lead g input (closing s) at made))) n → Room l n
+        go (Fine a m) h =
+            room-past filler (later a) a m n (subst (λ l. Room l n) (later-along a m) h)
+        go (Bad w j) h = h
+
+    pub scanned-some : (e q : ℕ) → scanned lead g s input ≡ Fine e q → 1 ≤ q
+    scanned-some e q h =
+        room-past filler (opening s) 0 1 q (opening-room q (subst (λ l. Room l q) (sym h) (omega arith)))
+
+    -- the lead and zero, then the first and second, and then the rest
+    module _ (row : List ℕ) (room : Room (scanned lead g s input) (length row)) where
+      abbrev leads : List Field
+      leads = s .lead ∷ s .zero ∷ []
+
+      abbrev firsts : List Field
+      firsts = s .first ∷ s .second ∷ []
+
+      open-room : Room (scans lead g input (leads ++ firsts) 0 1) (length row)
+      open-room = opening-room (length row) room
+
+      pub leads-room : Room (scans lead g input leads 0 1) (length row)
+      leads-room = front-room filler leads firsts 0 1 row open-room
+
+      module _ (a₁ m₁ : ℕ) (e₁ : scans lead g input leads 0 1 ≡ Fine a₁ m₁) {row₁ : List ℕ} (w₁ : row₁ ≡ sets row 1 (fills leads 0)) where
+        pub firsts-room : Room (scans lead g input firsts a₁ m₁) (length row₁)
+        firsts-room = rest-room filler leads firsts 0 1 row open-room a₁ m₁ e₁ w₁
+
+        module _ (a m : ℕ) (e₂ : scans lead g input firsts a₁ m₁ ≡ Fine a m) {row₂ : List ℕ} (w₂ : row₂ ≡ sets row₁ m₁ (fills firsts a₁)) where
+          opened : scans lead g input (opening s) 0 1 ≡ Fine a m
+          opened = both-end filler leads firsts 0 1 row open-room a₁ m₁ e₁ ∙ e₂
+
+          stored : row₂ ≡ sets row 1 (fills (opening s) 0)
+          stored = joined filler leads firsts 0 1 row open-room a₁ m₁ e₁ w₁ w₂
+
+          all-fields : Room (scans lead g input (opening s ++ later a) 0 1) (length row)
+          all-fields =
+              subst (λ l. Room l (length row))
+              (scanned-staged lead g input s
+              ∙ ap (λ l. after l (λ at made. pick (s .counted) (countedScan lead g s input at made) (scans lead g input (closing s) at made))) opened
+              ∙ later-along a m
+              ∙ sym (along-append (scan lead g) (opening s) (later a) input 0 1 ∙ ap (λ l. after l (scans lead g input (later a))) opened))
+              room
+
+          later-room : Room (scans lead g input (later a) a m) (length row₂)
+          later-room = rest-room filler (opening s) (later a) 0 1 row all-fields a m opened stored
+
+          pub counted-room : s .counted ≡ true → Room (countedScan lead g s input a m) (length row₂)
+          counted-room c = subst (λ l. Room l (length row₂)) (sym (counted-along a m)) (rw c at later-room)
+
+          pub plain-room : s .counted ≡ false → Room (scans lead g input (closing s) a m) (length row₂)
+          plain-room c = rw c at later-room
+
+          module _ {last : List ℕ} where
+            whole-filled : last ≡ sets row₂ m (fills (later a) a) → last ≡ sets row 1 (outs (reader lead g input) (plan s) 0 input)
+            whole-filled w =
+                stored-as row 1 (joined filler (opening s) (later a) 0 1 row all-fields a m opened stored w)
+                (fields-filled a m opened)
+
+            pub counted-whole : s .counted ≡ true → last ≡ sets row₂ m (countedFill lead g s input a)
+                → last ≡ sets row 1 (outs (reader lead g input) (plan s) 0 input)
+            unfolding countedFill
+            counted-whole c w = whole-filled (rw c w)
+
+            pub plain-whole : s .counted ≡ false → last ≡ sets row₂ m (fills (closing s) a)
+                → last ≡ sets row 1 (outs (reader lead g input) (plan s) 0 input)
+            plain-whole c w = whole-filled (rw c w)
