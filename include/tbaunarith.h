@@ -1,8 +1,8 @@
-/* The C interface of the library: sections, steps and sheets of WebAssembly component types, imports and canonicals.
+/* The C interface of the library: sections, steps, sheets and readings of WebAssembly component types, imports and canonicals.
  *
  * Build the library with `rt staticlib cabi`, which writes target/staticlib/libcabi.a, and link it.
  * Every call takes every input and returns. A refusal changes no buffer and no state.
- * What a call may write (state, body, out) must not overlap anything else that is passed to it. */
+ * What a call may write (state, body, out, row) must not overlap anything else that is passed to it. */
 #ifndef TBAUNARITH_H
 #define TBAUNARITH_H
 
@@ -21,7 +21,7 @@ enum {
     TB_ROW = 3,     /* row is empty, or not as long as kind and count need: 0 */
     TB_TAG = 4,     /* a word outside its list: its place */
     TB_RANGE = 5,   /* name ends past the pool: the place of its first word */
-    TB_TEXT = 6,    /* name is not UTF-8: the place of its first word */
+    TB_TEXT = 6,    /* name is not UTF-8: the place of its first word; reading: the offset of its first byte */
     TB_TOO_BIG = 7, /* size passes 4,294,967,295: 0 */
     TB_ROOM = 8,    /* too little room: the bytes or words that the call would add */
     TB_ORDER = 9,   /* step out of turn, or an entry still open: 0 */
@@ -46,6 +46,12 @@ typedef struct {
 
 /* A whole sheet: its rows' bytes at the front of body, the finished section at the front of out. */
 tb_reply tb_sheet(const uint8_t *sheet, size_t sheet_size, uint8_t *body, size_t body_size, uint8_t *out, size_t out_size);
+
+/* The type, or the import, at the front of the input, by a reader of grade 1, 2 or 3. TB_OK: `words` words of the row are filled,
+ * and `value` bytes of the input are taken. The row names its strings in the input: a name's two words are its first byte's
+ * offset in the input and its length. A row of 16,384 words has room for every item that is read. */
+tb_reply tb_read_type(const uint8_t *input, size_t input_size, uint32_t grade, uint32_t *row, size_t row_words);
+tb_reply tb_read_import(const uint8_t *input, size_t input_size, uint32_t grade, uint32_t *row, size_t row_words);
 
 /* A row: its bytes go behind the used part of the body, and the section has one entry more. */
 tb_reply tb_row(uint64_t state[5], const uint32_t *row, size_t row_words, const uint8_t *pool, size_t pool_size,

@@ -1,3 +1,4 @@
+pub mod Read
 pub mod Reply
 pub mod Sheet
 pub mod State

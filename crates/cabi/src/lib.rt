@@ -1,12 +1,17 @@
 // The C interface: every call of the library with C calling rules. include/tbaunarith.h declares it.
 use fields::Answer;
+use fields::Read;
 use fields::Refusal;
 use sections::Phase;
 use sections::Section;
 use sections::Turned;
 ghost use mathlib.Core.Path.{_≡_};
+ghost use Rattle.fields.specs.Read.{Few};
+ghost use Rattle.types.specs.Read.{readType};
+ghost use Rattle.imports.specs.Read.{readImport};
 ghost use Rattle.sections.specs.Steps.{rowing, opening, asyncing, paraming, resulting, abandoning};
 ghost use Rattle.sheets.specs.Sheet.{sheeted};
+ghost use Rattle.cabi.specs.Read.{replyOfRead, filled, ofRead};
 ghost use Rattle.cabi.specs.Reply.{replyOf, limit};
 ghost use Rattle.cabi.specs.Sheet.{written, ofSheet};
 ghost use Rattle.cabi.specs.State.{sectionOf, phaseOf, given, phaseNumber, startNumber, numbersOf, stepped, Settled, step, finished, finishes};
@@ -39,6 +44,24 @@ fn reply_to(answer: Answer) -> Reply
             value: n as u64,
         },
         Answer::Refused(why, n) => Reply {
+            number: fields::number_of(why),
+            words: 0,
+            value: n as u64,
+        },
+    }
+}
+
+fn reply_to_read(read: Read) -> Reply
+    requires { ⌜ Few read ⌝ }
+    ensures { λ r. ⌜ r ≡ replyOfRead read ⌝ }
+{
+    match read {
+        Read::Item(words, bytes) => Reply {
+            number: 0,
+            words: words as u32,
+            value: bytes as u64,
+        },
+        Read::Refused(why, n) => Reply {
             number: fields::number_of(why),
             words: 0,
             value: n as u64,
@@ -160,6 +183,22 @@ pub extern "C" fn tb_sheet(sheet: &[u8], body: &mut [u8], out: &mut [u8]) -> Rep
     ensures { λ r. ⌜ written r (now (body .exit)) (now (out .exit)) ≡ ofSheet (sheeted (now (sheet .entry)) (now (body .entry)) (now (out .entry))) ⌝ }
 {
     reply_to(sheets::sheet(sheet, body, out))
+}
+
+// The type at the front of the input.
+#[no_mangle]
+pub extern "C" fn tb_read_type(input: &[u8], grade: u32, row: &mut [u32]) -> Reply
+    ensures { λ r. ⌜ filled r (now (row .exit)) ≡ ofRead (readType grade (now (input .entry)) (now (row .entry))) ⌝ }
+{
+    reply_to_read(types::read(input, grade, row))
+}
+
+// The import at the front of the input.
+#[no_mangle]
+pub extern "C" fn tb_read_import(input: &[u8], grade: u32, row: &mut [u32]) -> Reply
+    ensures { λ r. ⌜ filled r (now (row .exit)) ≡ ofRead (readImport grade (now (input .entry)) (now (row .entry))) ⌝ }
+{
+    reply_to_read(imports::read(input, grade, row))
 }
 
 // A row of a section.

@@ -1,23 +1,29 @@
--- Each item of the bench is written as its bytes, by computation.
+-- Each item of the bench is written as its bytes, and each reading is refused as it says, by computation.
 use Prim.Native.Nat.{ℕ}
 use mathlib.Core.Path.{_≡_, refl}
 use mathlib.Core.Bool.{Bool, true, false}
 use mathlib.Core.List.{List, [], _∷_}
 use lib.ListN.{length}
-use Rattle.numbers.specs.Leb.{bytesOf}
+use Rattle.numbers.specs.Leb.{bytesOf, takeIn, within32, numberIn, more}
 use Rattle.numbers.specs.Text.{text, rest, step}
 use Rattle.fields.specs.declared.Answer.the-variants.{Size}
+use Rattle.fields.specs.declared.Read.the-variants as read
 use Rattle.fields.specs.Binary.{pick, name, primvaltype, valtype, optional, resultlist, functype, flag, slotAt, slotsAt, slots, externname, typebound, externdesc, bytes}
+use Rattle.fields.specs.Fill.{primitive, fillValue, fillName, fill}
 use Rattle.fields.specs.Judge.{wide, value, optionalValue, named, optionalName, reference, flaw, judge}
+use Rattle.fields.specs.Read.{leftRow, roomed, readItem}
 use Rattle.fields.specs.Row.{measuredRow, rowBytes, writeRow}
+use Rattle.fields.specs.Scan.{scanIndex, scanName, scanPrimitive, scanValue, headScan, firstScan, secondScan, scanExtern, scan}
 use Rattle.fields.specs.Shape.{repeated, seq, widths, rowWidth}
 use Rattle.fields.specs.Table.{shapeIn}
 use Rattle.fields.specs.View.{view}
 use Rattle.fields.specs.Walk.{walk, outs}
 use Rattle.fields.specs.Write.{left, sized, measured, stored}
+use Rattle.types.specs.Read.{kindIn, kindOf, leadGrade, readType}
 use Rattle.types.specs.Write.{writeType}
+use Rattle.imports.specs.Read.{readImport}
 use Rattle.imports.specs.Write.{writeImport}
-use Rattle.claims.specs.Bench.{Item, bench}
+use Rattle.claims.specs.Bench.{Item, Reading, Line, Written, Refused, bench}
 
 -- a buffer as long as the bytes
 abbrev pub blank : List ℕ → List ℕ
@@ -30,10 +36,56 @@ AsWritten i =
     pick (i .import) (writeImport (i .row) (i .pool) (blank (i .bytes)) 0) (writeType (i .row) (i .pool) (blank (i .bytes)) 0)
     ≡ left (Size (length (i .bytes))) (i .bytes)
 
-abbrev pub All : List Item → Type 0
+-- the reader of the family says the number and the place, and leaves every row as it was
+abbrev pub AsRefused : Reading → Type 0
+AsRefused r =
+    (room : List ℕ)
+    → pick (r .import) (readImport (r .grade) (r .bytes) room) (readType (r .grade) (r .bytes) room) ≡ leftRow (read.Refused (r .why) (r .place)) room
+
+abbrev pub All : List Line → Type 0
 All [] = Unit {0}
-All (i ∷ is) = AsWritten i × All is
+All (Written i ∷ ls) = AsWritten i × All ls
+All (Refused r ∷ ls) = AsRefused r × All ls
 
 pub bench-is-written : All bench
-unfolding bytesOf text rest step name primvaltype valtype optional resultlist functype flag slotAt slotsAt slots externname typebound externdesc bytes wide value optionalValue named optionalName reference flaw judge measuredRow rowBytes writeRow repeated seq widths rowWidth shapeIn view walk outs sized measured stored writeType writeImport
-bench-is-written = (refl, (refl, (refl, (refl, (refl, (refl, (refl, (refl, (refl, (refl, (refl, (refl, (refl, tt)))))))))))))
+unfolding bytesOf text rest step name primvaltype valtype optional resultlist functype flag slotAt slotsAt slots externname typebound externdesc bytes wide value optionalValue named optionalName reference flaw judge measuredRow rowBytes writeRow repeated seq widths rowWidth shapeIn view walk outs sized measured stored writeType writeImport takeIn within32 numberIn more kindIn kindOf leadGrade readType readImport readItem roomed scanIndex scanName scanPrimitive scanValue headScan firstScan secondScan scanExtern scan primitive fillValue fillName fill
+bench-is-written = (
+  refl,
+  (
+    refl,
+    (
+      refl,
+      (
+        refl,
+        (
+          refl,
+          (
+            refl,
+            (
+              refl,
+              (
+                refl,
+                (
+                  refl,
+                  (
+                    refl,
+                    (
+                      refl,
+                      (
+                        refl,
+                        (
+                          refl,
+                          ((λ room. refl), ((λ room. refl), ((λ room. refl), ((λ room. refl), tt)))),
+                        ),
+                      ),
+                    ),
+                  ),
+                ),
+              ),
+            ),
+          ),
+        ),
+      ),
+    ),
+  ),
+)

@@ -1,7 +1,10 @@
--- Bytes laid on the bench: items as rows beside a pool, and the bytes that document 01 prints for them.
+-- Bytes laid on the bench: items as rows beside a pool, and the bytes that document 01 prints for them; and bytes that a reader
+-- refuses.
 use Prim.Native.Nat.{ℕ}
 use mathlib.Core.Bool.{Bool, true, false}
 use mathlib.Core.List.{List, [], _∷_}
+use Rattle.fields.specs.declared.Refusal.{Refusal}
+use Rattle.fields.specs.declared.Refusal.the-variants as refusal
 
 pub record Item : Type 0 where
   -- whether the row is an import's, and not a type's
@@ -10,13 +13,31 @@ pub record Item : Type 0 where
   pub pool : List ℕ
   pub bytes : List ℕ
 
-abbrev type : List ℕ → List ℕ → List ℕ → Item
-type row pool bytes = record { import = false; row = row; pool = pool; bytes = bytes }
+pub record Reading : Type 0 where
+  -- whether an import is read, and not a type
+  pub import : Bool
+  pub grade : ℕ
+  pub bytes : List ℕ
+  pub why : Refusal
+  pub place : ℕ
 
-abbrev imports : List ℕ → List ℕ → List ℕ → Item
-imports row pool bytes = record { import = true; row = row; pool = pool; bytes = bytes }
+pub data Line : Type 0 where
+  Written : Item → Line
+  Refused : Reading → Line
 
-abbrev pub bench : List Item
+abbrev type : List ℕ → List ℕ → List ℕ → Line
+type row pool bytes = Written (record { import = false; row = row; pool = pool; bytes = bytes })
+
+abbrev imports : List ℕ → List ℕ → List ℕ → Line
+imports row pool bytes = Written (record { import = true; row = row; pool = pool; bytes = bytes })
+
+abbrev typeRead : ℕ → List ℕ → Refusal → ℕ → Line
+typeRead g bytes why place = Refused (record { import = false; grade = g; bytes = bytes; why = why; place = place })
+
+abbrev importRead : ℕ → List ℕ → Refusal → ℕ → Line
+importRead g bytes why place = Refused (record { import = true; grade = g; bytes = bytes; why = why; place = place })
+
+abbrev pub bench : List Line
 bench =
     -- primitive string
     type (0 ∷ 12 ∷ []) [] (0x73 ∷ [])
@@ -45,4 +66,12 @@ bench =
     -- same, version suffix `1`
     ∷ imports (17 ∷ 0 ∷ 1 ∷ 0 ∷ 0 ∷ 0 ∷ 1 ∷ 1 ∷ 1 ∷ 0 ∷ 0 ∷ 0 ∷ 1 ∷ 0 ∷ 0 ∷ []) (0x66 ∷ 0x31 ∷ [])
     (0x02 ∷ 0x01 ∷ 0x66 ∷ 0x01 ∷ 0x01 ∷ 0x01 ∷ 0x31 ∷ 0x01 ∷ 0x00 ∷ [])
+    -- record x error-context, read at grade 1
+    ∷ typeRead 1 (0x72 ∷ 0x01 ∷ 0x01 ∷ 0x78 ∷ 0x64 ∷ []) refusal.Newer 4
+    -- map string to u32, read at grade 2
+    ∷ typeRead 2 (0x63 ∷ 0x73 ∷ 0x79 ∷ []) refusal.Newer 0
+    -- own 0 as 69 80 00
+    ∷ typeRead 3 (0x69 ∷ 0x80 ∷ 0x00 ∷ []) refusal.Number 1
+    -- import lead 01
+    ∷ importRead 3 (0x01 ∷ []) refusal.Code 0
     ∷ []

@@ -8,6 +8,7 @@ pub mod FieldOnly
 pub mod FillLaws
 pub mod FilledLaws
 pub mod FlawLaws
+pub mod ItemLaws
 pub mod JudgedLaws
 pub mod LoopLaws
 pub mod Only

@@ -5,6 +5,7 @@ use native.Mathlib.Omega.{arith}
 use mathlib.Core.Path.{_≡_, refl, sym, ap, _∙_, subst}
 use mathlib.Core.Bool.{Bool, true, false}
 use mathlib.Core.List.{List, [], _∷_, _++_}
+use borrow.Author.Tests.{le-ltb, eq-eqb, ne-eqb}
 use lib.Dec.{eqb, ltb}
 use lib.ListN.{length, drop, length-append}
 use Rattle.fields.specs.declared.Field.{Field}
@@ -21,7 +22,7 @@ use Rattle.fields.specs.Judge.{wide, judge}
 use Rattle.fields.specs.Run.{along, makes, Under}
 use Rattle.fields.specs.Row.{measuredFound, measuredRow, rowBytes}
 use Rattle.fields.specs.Shape.{opening, group, closing, repeated, widths, rowWidth}
-use Rattle.fields.specs.Write.{bytesAt, judged, written, measured}
+use Rattle.fields.specs.Write.{bytesAt, judged, written, sized, measured}
 use Rattle.fields.proofs.AnswerLaws.{Sized, measured-sized, sized-stays}
 use Rattle.fields.proofs.PutLaws.{countedFields, later, allFields, row-groups, judged-along, shape-written}
 use Rattle.fields.proofs.RunLaws.{along-ends, along-bound}
@@ -49,6 +50,20 @@ accepted found row pool size e = rows (ltb 16384 (length row)) (ltb 65536 (lengt
     rows false false true e = let z : _≡_ {A = ℕ} 0 1 = cc in absurd (omega arith)
     rows false false false e = has found e
 
+-- a row that has a size by its shape, and no number too big, is accepted
+pub sized-accepted : (s : Shape) (row pool : List ℕ) (size : ℕ) → Sized s row 1 pool size → size < 2 ^ 32 → measuredRow (Is s) row pool ≡ Size size
+unfolding measuredRow measured sized rowWidth
+sized-accepted s row pool size k h =
+    let some : length row ≡ 0 → ⊥ = λ z. omega (arith, k .width) in
+    simp (
+      le-ltb _ _ (k .short),
+      le-ltb _ _ (k .small),
+      ne-eqb _ _ some,
+      eq-eqb _ _ (k .width),
+      k .judges,
+      le-ltb 4294967295 size (omega arith),
+    )
+
 -- all fields of a row have as many words as its width says, and are few where a group has a word
 all-widths : (s : Shape) (row : List ℕ) (start : ℕ) → start + widths (allFields s row start) ≡ rowWidth s row start
 unfolding rowWidth widths wide
@@ -65,6 +80,11 @@ all-widths s row start =
     both true =
         omega (arith, widths-append (repeated (word row at) (group s)) (closing s), repeated-widths (group s) (word row at))
     both false = omega arith
+
+-- a walk that ends, ends past the words that the row's width says
+pub judged-ends : (s : Shape) (pool row : List ℕ) (start e m : ℕ) → judged s pool row start ≡ Fine e m → e ≡ rowWidth s row start
+judged-ends s pool row start e m h =
+    along-ends pool (allFields s row start) (drop start row) start 0 e m (sym (judged-along s pool row start) ∙ h) .0 ∙ all-widths s row start
 
 few-fields : (s : Shape) (row : List ℕ) (start : ℕ) → (s .counted ≡ true → 1 ≤ widths (group s)) → rowWidth s row start ≡ length row
     → length row ≤ 16384 → length (allFields s row start) ≤ 32774
@@ -97,8 +117,7 @@ module _ {s : Shape} {row : List ℕ} {start : ℕ} {pool : List ℕ} {size : �
 
   -- the walk reaches the row's end
   pub reaches-end : k .end ≡ length row
-  reaches-end =
-      along-ends pool (allFields s row start) (drop start row) start 0 (k .end) size all .0 ∙ all-widths s row start ∙ k .width
+  reaches-end = judged-ends s pool row start (k .end) size (k .judges) ∙ k .width
 
   -- no size is too big, where a group has a word
   pub never-too-big : (s .counted ≡ true → 1 ≤ widths (group s)) → size < 2 ^ 32

@@ -85,3 +85,8 @@ readItem found kind lead g input row =
 abbrev pub Inside : Leaf → ℕ → Type 0
 Inside (Fine t m) n = t ≤ n
 Inside (Bad w j) n = j ≤ n
+
+-- an item has at most 16,384 words
+abbrev pub Few : Read → Type 0
+Few (Item words bytes) = words ≤ 16384
+Few (Refused w n) = Unit {0}
