@@ -10,7 +10,7 @@ enum-known-read : tie.Need-enum-known-read
 enum-known-read c = search needs
 
 cast-t7 : tie.Need-cast-t7
-cast-t7 c = ?
+cast-t7 c = let few = subst Few (c .before .read .given .1) (c .before .before .before .pre) in omega arith
 
 enum-known-read-2 : tie.Need-enum-known-read-2
 enum-known-read-2 c = search needs
@@ -19,7 +19,7 @@ number-of-requires : tie.Need-number-of-requires
 number-of-requires c κs = search needs
 
 returns : tie.Need-returns
-returns c = simp (c .before .before .read .given .1)
+returns c = simp (c .before .read .given .1)
 
 returns-2 : tie.Need-returns-2
 returns-2 c = simp (c .before .before .read2 .given .1, c .number-of .ensures)
