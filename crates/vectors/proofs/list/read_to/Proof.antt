@@ -1,9 +1,9 @@
--- `sheet_cases::read_to` is safe: its test says that the part it lends lies within the buffer (`length-take-le`).
+-- `vectors::list::read_to` is safe: its test says that the part it lends lies within the buffer (`length-take-le`).
 use mathlib.Core.Path.{sym}
 use lib.Seq.{length-take-le}
 use borrow.Author.Needs.{needs}
-use Rattle.sheet_cases.proofs.read_to.Statement.{statement}
-use Rattle.sheet_cases.proofs.read_to.Tie as tie
+use Rattle.vectors.proofs.list.read_to.Statement.{statement}
+use Rattle.vectors.proofs.list.read_to.Tie as tie
 
 returns : tie.Need-returns
 returns c = search needs

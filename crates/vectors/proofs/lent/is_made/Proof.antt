@@ -1,9 +1,9 @@
--- `sheet_cases::is_made` is safe and ends: the place rises to the buffer's length.
+-- `vectors::lent::is_made` is safe and ends: the place rises to the buffer's length.
 use Prim.Native.Nat.{_≤_, _-_}
 use lib.ListN.{length}
 use borrow.Author.Needs.{needs}
-use Rattle.sheet_cases.proofs.is_made.Statement.{statement}
-use Rattle.sheet_cases.proofs.is_made.Tie as tie
+use Rattle.vectors.proofs.lent.is_made.Statement.{statement}
+use Rattle.vectors.proofs.lent.is_made.Tie as tie
 
 abbrev Inv-loop : tie.InvT-loop
 Inv-loop buffer made turned i₀ i = i ≤ length buffer

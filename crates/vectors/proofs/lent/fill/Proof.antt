@@ -1,10 +1,10 @@
--- `sheet_cases::fill` is safe and ends: the buffer keeps its length, and the places left to fill become fewer.
+-- `vectors::lent::fill` is safe and ends: the buffer keeps its length, and the places left to fill become fewer.
 use Prim.Native.Nat.{_-_}
 use mathlib.Core.Path.{_≡_}
 use lib.ListN.{length}
 use borrow.Author.Needs.{needs}
-use Rattle.sheet_cases.proofs.fill.Statement.{statement}
-use Rattle.sheet_cases.proofs.fill.Tie as tie
+use Rattle.vectors.proofs.lent.fill.Statement.{statement}
+use Rattle.vectors.proofs.lent.fill.Tie as tie
 
 abbrev Inv-loop : tie.InvT-loop
 Inv-loop buffer₀ turned i₀ buffer i = length buffer ≡ length buffer₀
