@@ -44,16 +44,24 @@ def packed(title, cases):
 
 
 def unpacked(stored):
-    """Title and cases of a list that was packed elsewhere; the labels are empty."""
-    total, size = struct.unpack_from('>2I', stored)
-    title, at, cases = stored[8:8 + size].decode('ascii'), 8 + size, []
+    """Titles and cases of lists that were packed, one behind the other; the labels are empty."""
+    lists, at = [], 0
+    while at < len(stored):
+        title, cases, at = one_unpacked(stored, at)
+        lists.append((title, cases))
+    return lists
+
+
+def one_unpacked(stored, at):
+    """Title and cases of the list at a place, and where it ends."""
+    total, size = struct.unpack_from('>2I', stored, at)
+    title, at, cases = stored[at + 8:at + 8 + size].decode('ascii'), at + 8 + size, []
     for _ in range(total):
         sort, given, grade, body_room, room, number, value, made, body = struct.unpack_from('>9I', stored, at)
         start, middle, end = at + 36, at + 36 + given, at + 36 + given + made
         cases.append(Case('', sort, stored[start:middle], grade, body_room, room, number, value, stored[middle:end], body))
         at = end
-    assert at == len(stored)
-    return title, cases
+    return title, cases, at
 
 
 def told(title, cases):

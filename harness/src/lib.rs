@@ -1,2 +1,23 @@
 //! Compares the library with wasm-encoder, wasmparser and a model of document 01.
+pub mod answers;
+pub mod boundaries;
+pub mod components;
+pub mod damage;
+pub mod drive;
+pub mod encode;
+pub mod frames;
+pub mod growing;
+pub mod input;
+pub mod lean;
+pub mod loads;
+pub mod model;
+pub mod random;
+pub mod reading;
+pub mod report;
+pub mod rows;
+pub mod sample;
+pub mod shrink;
+pub mod stations;
+pub mod steps;
+pub mod sweep;
 pub mod tbaunarith;

@@ -1,0 +1,21 @@
+//! Writes the crate's and the model's stored answers: answers FOLDER puts crate.list and model.list there.
+
+use harness::answers::{crate_answers, packed, readings, refused_sheets};
+use harness::random::Random;
+use std::{env, fs, path::Path};
+
+fn main() {
+    let folder = env::args().nth(1).expect("answers FOLDER");
+    let rng = &mut Random::new(2026);
+    let crate_cases = crate_answers(rng, 3_300);
+    let mut model_cases = refused_sheets(rng, 60_000, 250);
+    model_cases.extend(readings(rng, 100_000, 250));
+    let lists = [
+        ("crate.list", "Answers of wasm-encoder 0.262.0", crate_cases),
+        ("model.list", "Answers of the model in harness/src/model.rs", model_cases),
+    ];
+    for (file, title, cases) in lists {
+        fs::write(Path::new(&folder).join(file), packed(title, &cases)).expect("the folder can be written");
+        println!("{file}: {} cases", cases.len());
+    }
+}

@@ -1,0 +1,67 @@
+//! Rows of one section beside one pool: what the comparisons are fed, as rows, as a sheet and as text.
+
+use crate::report;
+use crate::tbaunarith::{CANONICALS, IMPORTS, TYPES};
+
+/// Rows of one family, whose names all stand in one pool.
+#[derive(Clone, Debug, Default)]
+pub struct Input {
+    pub family: u64,
+    pub rows: Vec<Vec<u32>>,
+    pub pool: Vec<u8>,
+}
+
+/// The family of a kind's section.
+pub fn family_of(kind: u32) -> u64 {
+    match kind {
+        0..=16 => TYPES,
+        17 => IMPORTS,
+        _ => CANONICALS,
+    }
+}
+
+/// Where a counted kind's row has its count, and how many words each entry has.
+pub fn counted(kind: u32) -> Option<(usize, usize)> {
+    match kind {
+        1 | 2 => Some((1, 4)),
+        6..=8 => Some((1, 2)),
+        15 => Some((2, 4)),
+        0x100 => Some((3, 2)),
+        0x101 | 0x10f | 0x116 => Some((2, 2)),
+        _ => None,
+    }
+}
+
+impl Input {
+    /// One row alone.
+    pub fn alone(row: Vec<u32>, pool: Vec<u8>) -> Input {
+        Input { family: family_of(row[0]), rows: vec![row], pool }
+    }
+
+    /// The rows, each beside the pool.
+    pub fn beside_pool(&self) -> Vec<(&[u32], &[u8])> {
+        self.rows.iter().map(|row| (row.as_slice(), self.pool.as_slice())).collect()
+    }
+
+    /// The sheet with these rows, if a sheet can hold them.
+    pub fn sheet(&self) -> Option<Vec<u8>> {
+        let words: usize = self.rows.iter().map(|row| 1 + row.len()).sum();
+        if 5 + self.pool.len() + 4 * words > 65_536 {
+            return None;
+        }
+        let mut sheet = vec![1];
+        sheet.extend((self.pool.len() as u32).to_be_bytes());
+        sheet.extend(&self.pool);
+        for row in &self.rows {
+            sheet.extend((row.len() as u32).to_be_bytes());
+            sheet.extend(row.iter().flat_map(|word| word.to_be_bytes()));
+        }
+        Some(sheet)
+    }
+
+    /// The input as text, for a report.
+    pub fn shown(&self) -> String {
+        let rows: Vec<String> = self.rows.iter().take(20).map(|row| format!("[{}]", report::words(row))).collect();
+        format!("section {}, {} rows: {}; pool: {}", self.family, self.rows.len(), rows.join(" "), report::hex(&self.pool))
+    }
+}
