@@ -18,14 +18,19 @@ quietly() {
   "$@" >"$log" 2>&1 || { tail -n 30 "$log" >&2; echo "$what failed" >&2; return 1; }
 }
 
-# The static library, proved and built.
+# The static library, proved and built, unless it is newer than everything that it is made of.
 build_library() {
+  local library=$repository/target/staticlib/libcabi.a
   if [ -n "${TBAUNARITH_LIB:-}" ]; then
     echo "library: the one in TBAUNARITH_LIB, as it is"
   else
-    echo "library: rt staticlib cabi"
-    (cd "$repository" && quietly staticlib rt staticlib cabi)
-    TBAUNARITH_LIB=$repository/target/staticlib
+    TBAUNARITH_LIB=$(dirname "$library")
+    if [ -f "$library" ] && [ -z "$(find "$repository/crates" "$repository/crates.txt" -newer "$library" -print -quit)" ]; then
+      echo "library: as rt staticlib cabi made it; no crate is newer"
+    else
+      echo "library: rt staticlib cabi"
+      (cd "$repository" && quietly staticlib rt staticlib cabi)
+    fi
   fi
   TBAUNARITH_LIB=$(cd "$TBAUNARITH_LIB" && pwd)
   export TBAUNARITH_LIB

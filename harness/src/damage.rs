@@ -1,5 +1,6 @@
 //! Runs with damaged input: the library beside the model, every reply, byte, word and state field compared.
 
+use crate::input::frame;
 use crate::model;
 use crate::random::{valid_row, Random, KINDS};
 use crate::report::{Difference, Table};
@@ -281,18 +282,6 @@ impl SheetCase {
         shrink_list(&mut pool, &|pool| differs(pool, &rows));
         self.sheet = frame(&pool, &rows);
     }
-}
-
-/// A sheet of a pool and rows.
-fn frame(pool: &[u8], rows: &[Vec<u32>]) -> Vec<u8> {
-    let mut sheet = vec![0x01];
-    sheet.extend((pool.len() as u32).to_be_bytes());
-    sheet.extend_from_slice(pool);
-    for row in rows {
-        sheet.extend((row.len() as u32).to_be_bytes());
-        sheet.extend(row.iter().flat_map(|word| word.to_be_bytes()));
-    }
-    sheet
 }
 
 /// A random kind of one of the three families: 7, 8 or 10.

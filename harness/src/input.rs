@@ -46,17 +46,7 @@ impl Input {
     /// The sheet with these rows, if a sheet can hold them.
     pub fn sheet(&self) -> Option<Vec<u8>> {
         let words: usize = self.rows.iter().map(|row| 1 + row.len()).sum();
-        if 5 + self.pool.len() + 4 * words > 65_536 {
-            return None;
-        }
-        let mut sheet = vec![1];
-        sheet.extend((self.pool.len() as u32).to_be_bytes());
-        sheet.extend(&self.pool);
-        for row in &self.rows {
-            sheet.extend((row.len() as u32).to_be_bytes());
-            sheet.extend(row.iter().flat_map(|word| word.to_be_bytes()));
-        }
-        Some(sheet)
+        (5 + self.pool.len() + 4 * words <= 65_536).then(|| frame(&self.pool, &self.rows))
     }
 
     /// The input as text, for a report.
@@ -64,4 +54,16 @@ impl Input {
         let rows: Vec<String> = self.rows.iter().take(20).map(|row| format!("[{}]", report::words(row))).collect();
         format!("section {}, {} rows: {}; pool: {}", self.family, self.rows.len(), rows.join(" "), report::hex(&self.pool))
     }
+}
+
+/// A sheet of a pool and rows, however long.
+pub fn frame(pool: &[u8], rows: &[Vec<u32>]) -> Vec<u8> {
+    let mut sheet = vec![0x01];
+    sheet.extend((pool.len() as u32).to_be_bytes());
+    sheet.extend_from_slice(pool);
+    for row in rows {
+        sheet.extend((row.len() as u32).to_be_bytes());
+        sheet.extend(row.iter().flat_map(|word| word.to_be_bytes()));
+    }
+    sheet
 }
