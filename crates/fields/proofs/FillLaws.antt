@@ -1,7 +1,7 @@
 -- What the second pass leans on: what a number takes is small, and the options of an extern name stand inside the input.
 use Prim.Native.Nat.{ℕ, _+_, _-_, _≤_, _<_}
 use native.Mathlib.Omega.{arith}
-use mathlib.Core.Path.{_≡_, refl, sym, subst}
+use mathlib.Core.Path.{_≡_, refl, sym, ap, _∙_, subst}
 use mathlib.Core.Bool.{Bool, true, false}
 use mathlib.Core.List.{List}
 use lib.Dec.{eqb, ltb, leb}
@@ -123,3 +123,12 @@ module _ (bs : List ℕ) where
     pub second-inside : Inside (secondScan g bs) (length bs)
     unfolding secondScan
     second-inside = onward-inside (firstScan g bs) (slotScan 0x01 bs) (length bs) first-inside (slot-inside 0x01)
+
+    -- what was found so far, handed on
+    pub first-as : (l m : Leaf) → l ≡ headScan g bs → m ≡ onward l (slotScan 0x00 bs) → m ≡ firstScan g bs
+    unfolding firstScan
+    first-as l m el em = em ∙ ap (λ l. onward l (slotScan 0x00 bs)) el
+
+    pub second-as : (l m : Leaf) → l ≡ firstScan g bs → m ≡ onward l (slotScan 0x01 bs) → m ≡ secondScan g bs
+    unfolding secondScan
+    second-as l m el em = em ∙ ap (λ l. onward l (slotScan 0x01 bs)) el

@@ -213,7 +213,7 @@ module _ (lead g : ℕ) (input : List ℕ) where
         go false = refl
 
     -- their words, where the opening ends at a
-    fields-filled : (a m : ℕ) → scans lead g input (opening s) 0 1 ≡ Fine a m
+    pub fields-filled : (a m : ℕ) → scans lead g input (opening s) 0 1 ≡ Fine a m
         → fills (opening s ++ later a) 0 ≡ outs (reader lead g input) (plan s) 0 input
     unfolding outs makes view fill
     fields-filled a m e =
@@ -231,7 +231,7 @@ module _ (lead g : ℕ) (input : List ℕ) where
         rest false = outs-last (reader lead g input) (closing s) a (drop a input)
 
     -- what follows the opening has room where the whole has it
-    opening-room : (n : ℕ) → Room (scanned lead g s input) n → Room (scans lead g input (opening s) 0 1) n
+    pub opening-room : (n : ℕ) → Room (scanned lead g s input) n → Room (scans lead g input (opening s) 0 1) n
     opening-room n h = go (scans lead g input (opening s) 0 1) (subst (λ l. Room l n) (scanned-staged lead g input s) h)
       where
         go : (l : Leaf)

@@ -1,12 +1,12 @@
 -- What words that are right are, and where the first that is not stands.
 use Prim.Native.Nat.{ℕ, _+_, _≤_, _<_}
 use native.Mathlib.Omega.{arith}
-use mathlib.Core.Path.{_≡_, refl, _∙_}
+use mathlib.Core.Path.{_≡_, refl, sym, ap, _∙_}
 use mathlib.Core.Bool.{Bool, true, false}
 use mathlib.Core.List.{List}
 use lib.Dec.{eqb, ltb, leb}
 use lib.ListN.{length}
-use borrow.Author.Tests.{eqb-true, ltb-true, leb-true, ne-eqb}
+use borrow.Author.Tests.{eqb-true, ltb-true, leb-true, eq-eqb, ne-eqb}
 use Rattle.numbers.specs.Text.{text}
 use Rattle.fields.specs.declared.Field.{Field}
 use Rattle.fields.specs.declared.Field.the-variants as field
@@ -14,7 +14,7 @@ use Rattle.fields.specs.declared.Refusal.{Refusal}
 use Rattle.fields.specs.declared.Refusal.the-variants.{Tag, Range, Text}
 use Rattle.fields.specs.declared.Flaw.{Flaw}
 use Rattle.fields.specs.declared.Flaw.the-variants.{Right, Wrong}
-use Rattle.fields.specs.Binary.{pick, word, chars, indexed}
+use Rattle.fields.specs.Binary.{pick, word, chars, flag, slots, indexed}
 use Rattle.fields.specs.Judge.{then, below, unused, value, optionalValue, named, optionalIndex, choice, optionalName, reference, flaw}
 
 -- a flaw stands at one of the field's words
@@ -167,3 +167,43 @@ reference-below ws e = go (eqb (word ws 0) 2) (eqb (word ws 0) 3) (ltb (word ws 
     go true b c p q r x y z e = omega (arith, eqb-true (word ws 0) 2 p)
     go false true c p q r x y z e = omega (arith, eqb-true (word ws 0) 3 q)
     go false false c p q r x y z e = ltb-true _ _ (r ∙ if-right c z Tag 0 e .0)
+
+-- ---- an extern name without options
+
+slot-absent : (pool ws : List ℕ) (i : ℕ) → word ws i ≡ 0 → word ws (i + 1) ≡ 0 → word ws (i + 2) ≡ 0 → optionalName pool ws i ≡ Right
+unfolding optionalName
+slot-absent pool ws i a b c = simp (eq-eqb _ _ a, eq-eqb _ _ b, eq-eqb _ _ c)
+
+-- the words of the options add up to 0
+pub options-absent : (pool ws : List ℕ) (a b c : ℕ) → a ≡ word ws 2 + word ws 3 + word ws 4 → b ≡ word ws 5 + word ws 6 + word ws 7
+    → c ≡ word ws 8 + word ws 9 + word ws 10 → a + b + c ≡ 0
+    → then (optionalName pool ws 2) (then (optionalName pool ws 5) (optionalName pool ws 8)) ≡ Right
+options-absent pool ws a b c ea eb ec e =
+    let x2 : word ws 2 ≡ 0 = omega arith in
+    let x3 : word ws 3 ≡ 0 = omega arith in
+    let x4 : word ws 4 ≡ 0 = omega arith in
+    let x5 : word ws 5 ≡ 0 = omega arith in
+    let x6 : word ws 6 ≡ 0 = omega arith in
+    let x7 : word ws 7 ≡ 0 = omega arith in
+    let x8 : word ws 8 ≡ 0 = omega arith in
+    let x9 : word ws 9 ≡ 0 = omega arith in
+    let x10 : word ws 10 ≡ 0 = omega arith in
+    rw (slot-absent pool ws 2 x2 x3 x4, slot-absent pool ws 5 x5 x6 x7, slot-absent pool ws 8 x8 x9 x10)
+
+pub slots-absent : (ws : List ℕ) (a b c : ℕ) → a ≡ word ws 2 + word ws 3 + word ws 4 → b ≡ word ws 5 + word ws 6 + word ws 7
+    → c ≡ word ws 8 + word ws 9 + word ws 10 → a + b + c ≡ 0 → slots ws ≡ 0
+unfolding slots flag
+slots-absent ws a b c ea eb ec e =
+    let x2 : word ws 2 ≡ 0 = omega arith in
+    let x5 : word ws 5 ≡ 0 = omega arith in
+    let x8 : word ws 8 ≡ 0 = omega arith in
+    rw (x2, x5, x8)
+
+pub plain-flaw : (pool ws : List ℕ) (x : Flaw) → x ≡ named pool ws 0
+    → then (optionalName pool ws 2) (then (optionalName pool ws 5) (optionalName pool ws 8)) ≡ Right → x ≡ flaw pool field.ExternName ws
+unfolding flaw
+plain-flaw pool ws x ex e = ex ∙ sym (ap (λ y. then (named pool ws 0) y) e ∙ same (named pool ws 0))
+  where
+    same : (x : Flaw) → then x Right ≡ x
+    same Right = refl
+    same (Wrong w j) = refl

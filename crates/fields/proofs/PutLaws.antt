@@ -68,6 +68,11 @@ pub one-makes : (pool : List ℕ) (f : Field) (at : ℕ) (ws : List ℕ) → mak
 unfolding makes
 one-makes pool f at ws = append-nil (bytes pool f ws)
 
+-- a field that was found to be g, and its bytes
+pub one-wrote : (pool row : List ℕ) (f g : Field) (at to : ℕ) → f ≡ g → {bs old new : List ℕ} {next : ℕ} → bs ≡ bytes pool g (drop at row)
+    → Wrote old to bs next new → Wrote old to (makes (judge pool) (bytesAt pool) (f ∷ []) at (drop at row)) next new
+one-wrote pool row f g at to e eb w = rw (e, one-makes pool g at (drop at row), ← eb) w
+
 -- some fields, and then others
 module _ (pool : List ℕ) (fs gs : List Field) (row : List ℕ) (at to : ℕ) (old : List ℕ)
     (room : Room (judges pool (fs ++ gs) row at to) (length old)) where

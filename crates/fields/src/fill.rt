@@ -2,11 +2,10 @@
 use crate::Field;
 use crate::Leaf;
 use crate::judge::is_indexed;
+use crate::scan::and_slot;
 use crate::scan::byte_at;
-use crate::scan::first_scan;
 use crate::scan::head_scan;
 use crate::scan::rest_at;
-use crate::scan::second_scan;
 use numbers::Taken;
 ghost use mathlib.Core.Path.{_≡_};
 ghost use mathlib.Core.List.{_∷_, []};
@@ -17,6 +16,7 @@ ghost use lib.Seq.{sets};
 ghost use Rattle.fields.specs.Binary.{pick};
 ghost use Rattle.fields.specs.Fill.{twoWords, threeWords, valueIn, sizeIn, index, primitive, fillValue, fillOptional, fillName, fillSlot, fillSlots, fillExtern, fillReference, fill};
 ghost use Rattle.fields.specs.Judge.{wide};
+ghost use Rattle.fields.specs.Quick.{absent};
 ghost use Rattle.fields.specs.Read.{Inside};
 
 // Two words, and three.
@@ -57,7 +57,7 @@ pub fn index_at(bs: &[u8], k: usize) -> u32
     value_in(numbers::take_unsigned(rest_at(bs, k)))
 }
 
-fn primitive_of(b: u8) -> u32
+pub fn primitive_of(b: u8) -> u32
     ensures { λ r. ⌜ r ≡ primitive b ⌝ }
 {
     if b == 0x64 {
@@ -176,14 +176,14 @@ fn reference_words(bs: &[u8]) -> Three
     }
 }
 
-fn store_one(a: u32, row: &mut [u32], to: usize)
+pub fn store_one(a: u32, row: &mut [u32], to: usize)
     requires { ⌜ to + 1 ≤ length (now row) ⌝ }
     ensures { λ _. ⌜ now (row .exit) ≡ sets (now (row .entry)) to (a ∷ []) ⌝ }
 {
     row[to] = a;
 }
 
-fn store_two(w: Two, row: &mut [u32], to: usize)
+pub fn store_two(w: Two, row: &mut [u32], to: usize)
     requires { ⌜ to + 2 ≤ length (now row) ⌝ }
     ensures { λ _. ⌜ now (row .exit) ≡ sets (now (row .entry)) to (twoWords w) ⌝ }
 {
@@ -191,7 +191,7 @@ fn store_two(w: Two, row: &mut [u32], to: usize)
     row[to + 1] = w.b;
 }
 
-fn store_three(w: Three, row: &mut [u32], to: usize)
+pub fn store_three(w: Three, row: &mut [u32], to: usize)
     requires { ⌜ to + 3 ≤ length (now row) ⌝ }
     ensures { λ _. ⌜ now (row .exit) ≡ sets (now (row .entry)) to (threeWords w) ⌝ }
 {
@@ -200,15 +200,29 @@ fn store_three(w: Three, row: &mut [u32], to: usize)
     row[to + 2] = w.c;
 }
 
+// The options of an extern name that has none.
+pub fn store_absent(row: &mut [u32], to: usize)
+    requires { ⌜ to + 9 ≤ length (now row) ⌝ }
+    ensures { λ _. ⌜ now (row .exit) ≡ sets (now (row .entry)) to absent ⌝ }
+{
+    let none = Three { a: 0, b: 0, c: 0 };
+    store_three(none, row, to);
+    store_three(none, row, to + 3);
+    store_three(none, row, to + 6);
+}
+
 // The three options of an extern name.
 fn fill_slots(grade: u32, at: usize, bs: &[u8], row: &mut [u32], to: usize)
     requires { ⌜ (at ≤ 2 ^ 30) × (length (now bs) ≤ 2 ^ 30) ⌝ }
     requires { ⌜ to + 9 ≤ length (now row) ⌝ }
     ensures { λ _. ⌜ now (row .exit) ≡ sets (now (row .entry)) to (fillSlots grade at (now (bs .entry))) ⌝ }
 {
-    let implements = slot_words(0x00, at, bs, head_scan(grade, bs));
-    let suffix = slot_words(0x01, at, bs, first_scan(grade, bs));
-    let id = slot_words(0x02, at, bs, second_scan(grade, bs));
+    let head = head_scan(grade, bs);
+    let first = and_slot(head, 0x00, bs);
+    let second = and_slot(first, 0x01, bs);
+    let implements = slot_words(0x00, at, bs, head);
+    let suffix = slot_words(0x01, at, bs, first);
+    let id = slot_words(0x02, at, bs, second);
     store_three(implements, row, to);
     store_three(suffix, row, to + 3);
     store_three(id, row, to + 6);

@@ -238,7 +238,7 @@ fn fill_counted(s: Shape, lead: u32, grade: u32, input: &[u8], from: Place, row:
 }
 
 // The words of an item that was scanned, behind the word of its kind.
-fn fill_shape(s: Shape, lead: u32, grade: u32, input: &[u8], row: &mut [u32])
+pub fn fill_shape(s: Shape, lead: u32, grade: u32, input: &[u8], row: &mut [u32])
     requires { ⌜ length (now input) ≤ 2 ^ 30 ⌝ }
     requires { ⌜ Room (scanned lead grade s (now input)) (length (now row)) ⌝ }
     ensures { λ _. ⌜ now (row .exit) ≡ sets (now (row .entry)) 1 (outs (reader lead grade (now (input .entry))) (plan s) 0 (now (input .entry))) ⌝ }

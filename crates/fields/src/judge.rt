@@ -2,11 +2,13 @@
 use crate::Field;
 use crate::Flaw;
 use crate::Refusal;
+ghost use mathlib.Core.Bool.{true};
 ghost use mathlib.Core.Path.{_≡_};
 ghost use Prim.Native.Nat.{_<_, _≤_, _+_, _^_};
 ghost use lib.ListN.{getD};
-ghost use Rattle.fields.specs.Binary.{indexed};
+ghost use Rattle.fields.specs.Binary.{indexed, slots};
 ghost use Rattle.fields.specs.Judge.{wide, then, below, unused, value, optionalValue, named, optionalIndex, choice, optionalName, reference, flaw};
+ghost use Rattle.fields.specs.declared.Flaw.the-variants.{Right};
 
 // How many words a field has.
 pub fn wide_of(f: Field) -> usize
@@ -42,7 +44,7 @@ pub fn word_at(ws: &[u32], i: usize) -> u32
     0
 }
 
-fn below_at(n: u32, ws: &[u32], i: usize) -> Flaw
+pub fn below_at(n: u32, ws: &[u32], i: usize) -> Flaw
     ensures { λ r. ⌜ r ≡ below n (now (ws .entry)) i ⌝ }
 {
     if word_at(ws, i) < n {
@@ -60,8 +62,8 @@ fn unused_at(ws: &[u32], i: usize) -> Flaw
     Flaw::Wrong(Refusal::Tag, i)
 }
 
-fn value_at(ws: &[u32], i: usize) -> Flaw
-    requires { ⌜ i < 100 ⌝ }
+pub fn value_at(ws: &[u32], i: usize) -> Flaw
+    requires { ⌜ i < 2 ^ 42 ⌝ }
     ensures { λ r. ⌜ r ≡ value (now (ws .entry)) i ⌝ }
 {
     let tag = word_at(ws, i);
@@ -74,8 +76,8 @@ fn value_at(ws: &[u32], i: usize) -> Flaw
     Flaw::Wrong(Refusal::Tag, i)
 }
 
-fn optional_value_at(ws: &[u32], i: usize) -> Flaw
-    requires { ⌜ i < 100 ⌝ }
+pub fn optional_value_at(ws: &[u32], i: usize) -> Flaw
+    requires { ⌜ i < 2 ^ 42 ⌝ }
     ensures { λ r. ⌜ r ≡ optionalValue (now (ws .entry)) i ⌝ }
 {
     if word_at(ws, i) == 2 {
@@ -84,8 +86,8 @@ fn optional_value_at(ws: &[u32], i: usize) -> Flaw
     value_at(ws, i)
 }
 
-fn named_at(pool: &[u8], ws: &[u32], i: usize) -> Flaw
-    requires { ⌜ i < 100 ⌝ }
+pub fn named_at(pool: &[u8], ws: &[u32], i: usize) -> Flaw
+    requires { ⌜ i < 2 ^ 42 ⌝ }
     ensures { λ r. ⌜ r ≡ named (now (pool .entry)) (now (ws .entry)) i ⌝ }
 {
     let start = word_at(ws, i) as usize;
@@ -100,7 +102,7 @@ fn named_at(pool: &[u8], ws: &[u32], i: usize) -> Flaw
     Flaw::Wrong(Refusal::Range, i)
 }
 
-fn optional_index_of(ws: &[u32]) -> Flaw
+pub fn optional_index_of(ws: &[u32]) -> Flaw
     ensures { λ r. ⌜ r ≡ optionalIndex (now (ws .entry)) ⌝ }
 {
     let present = word_at(ws, 0);
@@ -168,17 +170,46 @@ fn optional_name_at(pool: &[u8], ws: &[u32], i: usize) -> Flaw
     Flaw::Wrong(Refusal::Tag, i)
 }
 
+// The three words of an option together: 0 where each is.
+fn three_at(ws: &[u32], i: usize) -> u64
+    requires { ⌜ i < 100 ⌝ }
+    ensures { λ r. ⌜ (r ≡ getD (now (ws .entry)) i 0 + getD (now (ws .entry)) (i + 1) 0 + getD (now (ws .entry)) (i + 2) 0) × (r < 2 ^ 34) ⌝ }
+{
+    let present = word_at(ws, i) as u64;
+    let start = word_at(ws, i + 1) as u64;
+    let size = word_at(ws, i + 2) as u64;
+    present + start + size
+}
+
+// Whether no option is present, as in most imports: then none needs to be judged.
+pub fn is_plain(pool: &[u8], ws: &[u32]) -> bool
+    ensures { λ r. ⌜ (r ≡ true → then (optionalName (now (pool .entry)) (now (ws .entry)) 2) (then (optionalName (now (pool .entry)) (now (ws .entry)) 5) (optionalName (now (pool .entry)) (now (ws .entry)) 8)) ≡ Right) ⌝ }
+    ensures { λ r. ⌜ (r ≡ true → slots (now (ws .entry)) ≡ 0) ⌝ }
+{
+    if ws.len() < 11 {
+        return false;
+    }
+    let sum = three_at(ws, 2) + three_at(ws, 5) + three_at(ws, 8);
+    if sum == 0 {
+        return true;
+    }
+    false
+}
+
 fn extern_name_of(pool: &[u8], ws: &[u32]) -> Flaw
     ensures { λ r. ⌜ r ≡ flaw (now (pool .entry)) Field.ExternName (now (ws .entry)) ⌝ }
 {
     let name = named_at(pool, ws, 0);
+    if is_plain(pool, ws) {
+        return name;
+    }
     let implements = optional_name_at(pool, ws, 2);
     let suffix = optional_name_at(pool, ws, 5);
     let id = optional_name_at(pool, ws, 8);
     first_flaw(name, first_flaw(implements, first_flaw(suffix, id)))
 }
 
-fn reference_of(ws: &[u32]) -> Flaw
+pub fn reference_of(ws: &[u32]) -> Flaw
     ensures { λ r. ⌜ r ≡ reference (now (ws .entry)) ⌝ }
 {
     let sort = word_at(ws, 0);

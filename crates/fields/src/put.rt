@@ -26,7 +26,7 @@ fn stored_size(s: Stored) -> usize
     }
 }
 
-fn put_byte(b: u8, out: &mut [u8], to: usize) -> usize
+pub fn put_byte(b: u8, out: &mut [u8], to: usize) -> usize
     requires { ⌜ to + 1 ≤ length (now out) ⌝ }
     ensures { λ r. ⌜ Wrote (now (out .entry)) to (b ∷ []) r (now (out .exit)) ⌝ }
 {
@@ -34,10 +34,13 @@ fn put_byte(b: u8, out: &mut [u8], to: usize) -> usize
     to + 1
 }
 
-fn put_unsigned(n: u32, out: &mut [u8], to: usize) -> usize
+pub fn put_unsigned(n: u32, out: &mut [u8], to: usize) -> usize
     requires { ⌜ to + length (unsigned n) ≤ length (now out) ⌝ }
     ensures { λ r. ⌜ Wrote (now (out .entry)) to (unsigned n) r (now (out .exit)) ⌝ }
 {
+    if n < 128 {
+        return put_byte(n as u8, out, to);
+    }
     to + stored_size(numbers::put_unsigned(n, to, out))
 }
 
@@ -45,21 +48,24 @@ fn put_signed(n: u32, out: &mut [u8], to: usize) -> usize
     requires { ⌜ to + length (signed n) ≤ length (now out) ⌝ }
     ensures { λ r. ⌜ Wrote (now (out .entry)) to (signed n) r (now (out .exit)) ⌝ }
 {
+    if n < 64 {
+        return put_byte(n as u8, out, to);
+    }
     to + stored_size(numbers::put_signed(n, to, out))
 }
 
-fn put_name(pool: &[u8], start: u32, size: u32, out: &mut [u8], to: usize) -> usize
+pub fn put_name(pool: &[u8], start: u32, size: u32, out: &mut [u8], to: usize) -> usize
     requires { ⌜ start + size ≤ length (now pool) ⌝ }
     requires { ⌜ to + length (name (now pool) start size) ≤ length (now out) ⌝ }
     ensures { λ r. ⌜ Wrote (now (out .entry)) to (name (now (pool .entry)) start size) r (now (out .exit)) ⌝ }
 {
-    let chars = to + stored_size(numbers::put_unsigned(size, to, out));
+    let chars = put_unsigned(size, out, to);
     let from = start as usize;
     let end = from + (size as usize);
     chars + stored_size(numbers::copy(&pool[from..end], chars, out))
 }
 
-fn primitive_byte(p: u32) -> u8
+pub fn primitive_byte(p: u32) -> u8
     ensures { λ r. ⌜ r ≡ primvaltype p ⌝ }
 {
     if p == 13 {
@@ -71,7 +77,7 @@ fn primitive_byte(p: u32) -> u8
     0
 }
 
-fn put_value(tag: u32, x: u32, out: &mut [u8], to: usize) -> usize
+pub fn put_value(tag: u32, x: u32, out: &mut [u8], to: usize) -> usize
     requires { ⌜ to + length (valtype tag x) ≤ length (now out) ⌝ }
     ensures { λ r. ⌜ Wrote (now (out .entry)) to (valtype tag x) r (now (out .exit)) ⌝ }
 {
@@ -81,7 +87,7 @@ fn put_value(tag: u32, x: u32, out: &mut [u8], to: usize) -> usize
     put_signed(x, out, to)
 }
 
-fn put_optional(tag: u32, x: u32, out: &mut [u8], to: usize) -> usize
+pub fn put_optional(tag: u32, x: u32, out: &mut [u8], to: usize) -> usize
     requires { ⌜ to + length (optional tag x) ≤ length (now out) ⌝ }
     ensures { λ r. ⌜ Wrote (now (out .entry)) to (optional tag x) r (now (out .exit)) ⌝ }
 {
@@ -92,7 +98,7 @@ fn put_optional(tag: u32, x: u32, out: &mut [u8], to: usize) -> usize
     put_value(tag, x, out, next)
 }
 
-fn put_optional_then_zero(tag: u32, x: u32, out: &mut [u8], to: usize) -> usize
+pub fn put_optional_then_zero(tag: u32, x: u32, out: &mut [u8], to: usize) -> usize
     requires { ⌜ to + length (optional tag x ++ 0x00 ∷ []) ≤ length (now out) ⌝ }
     ensures { λ r. ⌜ Wrote (now (out .entry)) to (optional tag x ++ 0x00 ∷ []) r (now (out .exit)) ⌝ }
 {
@@ -100,7 +106,7 @@ fn put_optional_then_zero(tag: u32, x: u32, out: &mut [u8], to: usize) -> usize
     put_byte(0x00, out, next)
 }
 
-fn put_result(tag: u32, x: u32, out: &mut [u8], to: usize) -> usize
+pub fn put_result(tag: u32, x: u32, out: &mut [u8], to: usize) -> usize
     requires { ⌜ to + length (resultlist tag x) ≤ length (now out) ⌝ }
     ensures { λ r. ⌜ Wrote (now (out .entry)) to (resultlist tag x) r (now (out .exit)) ⌝ }
 {
@@ -113,13 +119,13 @@ fn put_result(tag: u32, x: u32, out: &mut [u8], to: usize) -> usize
 }
 
 // One byte where the word is 0, another where it is not.
-fn either(w: u32, zero: u8, other: u8) -> u8
+pub fn either(w: u32, zero: u8, other: u8) -> u8
     ensures { λ r. ⌜ r ≡ pick (eqb w 0) zero other ⌝ }
 {
     if w == 0 { zero } else { other }
 }
 
-fn put_destructor(present: u32, x: u32, out: &mut [u8], to: usize) -> usize
+pub fn put_destructor(present: u32, x: u32, out: &mut [u8], to: usize) -> usize
     requires { ⌜ to + length (destructor present x) ≤ length (now out) ⌝ }
     ensures { λ r. ⌜ Wrote (now (out .entry)) to (destructor present x) r (now (out .exit)) ⌝ }
 {
@@ -181,7 +187,7 @@ fn put_lead(lead: u8, pool: &[u8], ws: &[u32], out: &mut [u8], to: usize) -> usi
     put_name(pool, start, size, out, next)
 }
 
-fn put_extern(pool: &[u8], ws: &[u32], out: &mut [u8], to: usize) -> usize
+pub fn put_extern(pool: &[u8], ws: &[u32], out: &mut [u8], to: usize) -> usize
     requires { ⌜ flaw (now pool) Field.ExternName (now ws) ≡ Right ⌝ }
     requires { ⌜ to + length (externname (now pool) (now ws)) ≤ length (now out) ⌝ }
     ensures { λ r. ⌜ Wrote (now (out .entry)) to (externname (now (pool .entry)) (now (ws .entry))) r (now (out .exit)) ⌝ }
@@ -215,7 +221,7 @@ fn put_module(x: u32, out: &mut [u8], to: usize) -> usize
     put_unsigned(x, out, index)
 }
 
-fn put_reference(sort: u32, x: u32, y: u32, out: &mut [u8], to: usize) -> usize
+pub fn put_reference(sort: u32, x: u32, y: u32, out: &mut [u8], to: usize) -> usize
     requires { ⌜ sort < 6 ⌝ }
     requires { ⌜ to + length (externdesc sort x y) ≤ length (now out) ⌝ }
     ensures { λ r. ⌜ Wrote (now (out .entry)) to (externdesc sort x y) r (now (out .exit)) ⌝ }

@@ -308,7 +308,7 @@ pub fn head_scan(grade: u32, bs: &[u8]) -> Leaf
 }
 
 // Option k, after what was found before it.
-fn and_slot(so: Leaf, k: u8, bs: &[u8]) -> Leaf
+pub fn and_slot(so: Leaf, k: u8, bs: &[u8]) -> Leaf
     requires { ⌜ (length (now bs) ≤ 2 ^ 30) × Inside so (2 ^ 30) ⌝ }
     ensures { λ r. ⌜ r ≡ onward so (slotScan k (now (bs .entry))) ⌝ }
 {
@@ -318,14 +318,14 @@ fn and_slot(so: Leaf, k: u8, bs: &[u8]) -> Leaf
     }
 }
 
-pub fn first_scan(grade: u32, bs: &[u8]) -> Leaf
+fn first_scan(grade: u32, bs: &[u8]) -> Leaf
     requires { ⌜ length (now bs) ≤ 2 ^ 30 ⌝ }
     ensures { λ r. ⌜ r ≡ firstScan grade (now (bs .entry)) ⌝ }
 {
     and_slot(head_scan(grade, bs), 0x00, bs)
 }
 
-pub fn second_scan(grade: u32, bs: &[u8]) -> Leaf
+fn second_scan(grade: u32, bs: &[u8]) -> Leaf
     requires { ⌜ length (now bs) ≤ 2 ^ 30 ⌝ }
     ensures { λ r. ⌜ r ≡ secondScan grade (now (bs .entry)) ⌝ }
 {

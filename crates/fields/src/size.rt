@@ -10,14 +10,14 @@ ghost use Rattle.fields.specs.Binary.{slots, flag};
 ghost use Rattle.fields.specs.Size.{valueSize, optionalSize, nameSize, slotSize, slotsSize, externSize, referenceSize, size};
 
 // The index at i as a u32.
-fn index_size(ws: &[u32], i: usize) -> usize
+pub fn index_size(ws: &[u32], i: usize) -> usize
     ensures { λ r. ⌜ (r ≡ length (unsigned (getD (now (ws .entry)) i 0))) × (r ≤ 5) ⌝ }
 {
     numbers::unsigned_size(word_at(ws, i))
 }
 
-fn value_size(ws: &[u32], i: usize) -> usize
-    requires { ⌜ i < 100 ⌝ }
+pub fn value_size(ws: &[u32], i: usize) -> usize
+    requires { ⌜ i < 2 ^ 42 ⌝ }
     ensures { λ r. ⌜ (r ≡ valueSize (now (ws .entry)) i) × (r ≤ 5) ⌝ }
 {
     if word_at(ws, i) == 0 {
@@ -26,8 +26,8 @@ fn value_size(ws: &[u32], i: usize) -> usize
     numbers::signed_size(word_at(ws, i + 1))
 }
 
-fn optional_size(absent: usize, ws: &[u32], i: usize) -> usize
-    requires { ⌜ (absent ≤ 2) × (i < 100) ⌝ }
+pub fn optional_size(absent: usize, ws: &[u32], i: usize) -> usize
+    requires { ⌜ (absent ≤ 2) × (i < 2 ^ 42) ⌝ }
     ensures { λ r. ⌜ (r ≡ optionalSize absent (now (ws .entry)) i) × (r ≤ 6) ⌝ }
 {
     if word_at(ws, i) == 2 {
@@ -36,8 +36,8 @@ fn optional_size(absent: usize, ws: &[u32], i: usize) -> usize
     1 + value_size(ws, i)
 }
 
-fn name_size(ws: &[u32], i: usize) -> usize
-    requires { ⌜ i < 100 ⌝ }
+pub fn name_size(ws: &[u32], i: usize) -> usize
+    requires { ⌜ i < 2 ^ 42 ⌝ }
     ensures { λ r. ⌜ (r ≡ nameSize (now (ws .entry)) i) × (r ≤ 2 ^ 32 + 5) ⌝ }
 {
     let size = word_at(ws, i + 1);
@@ -86,7 +86,7 @@ fn extern_size(ws: &[u32]) -> usize
     2 + (name_size(ws, 0) + slots_size(ws))
 }
 
-fn reference_size(ws: &[u32]) -> usize
+pub fn reference_size(ws: &[u32]) -> usize
     ensures { λ r. ⌜ (r ≡ referenceSize (now (ws .entry))) × (r ≤ 7) ⌝ }
 {
     let sort = word_at(ws, 0);
@@ -105,7 +105,7 @@ fn reference_size(ws: &[u32]) -> usize
     1 + index_size(ws, 1)
 }
 
-fn optional_index_size(ws: &[u32]) -> usize
+pub fn optional_index_size(ws: &[u32]) -> usize
     ensures { λ r. ⌜ (r ≡ size Field.OptionalIndex (now (ws .entry))) × (r ≤ 6) ⌝ }
 {
     if word_at(ws, 0) == 0 {

@@ -19,7 +19,7 @@ ghost use Rattle.fields.specs.Shape.{group, repeated, widths, rowWidth, 
 ghost use Rattle.fields.specs.Write.{judged, written, bytesAt};
 
 // The row from `at` on, nothing past its end.
-fn rest_of(row: &[u32], at: usize) -> &[u32]
+pub fn rest_of(row: &[u32], at: usize) -> &[u32]
     ensures { λ r. ⌜ now r ≡ drop at (now (row .entry)) ⌝ }
 {
     if at <= row.len() {

@@ -36,14 +36,15 @@ pub fn measure(row: &[u32], pool: &[u8]) -> Answer
 pub fn write(row: &[u32], pool: &[u8], out: &mut [u8], at: usize) -> Answer
     ensures { λ r. ⌜ left r (now (out .exit)) ≡ writeImport (now (row .entry)) (now (pool .entry)) (now (out .entry)) at ⌝ }
 {
-    let shape = shape_of(fields::kind_of(row));
-    fields::write_row(shape, row, pool, out, at)
+    if fields::kind_of(row) == 17 {
+        return fields::write_import(row, pool, out, at);
+    }
+    fields::write_row(Found::Not, row, pool, out, at)
 }
 
 // The import at the front of the input, filled into the row, which names its strings in the input itself (`numbers::part`).
 pub fn read(input: &[u8], grade: u32, row: &mut [u32]) -> Read
     ensures { λ r. ⌜ leftRow r (now (row .exit)) ≡ readImport grade (now (input .entry)) (now (row .entry)) ⌝ }
 {
-    let shape = shape_of(17);
-    fields::read_item(shape, 17, 1, grade, input, row)
+    fields::read_import(17, 1, grade, input, row)
 }

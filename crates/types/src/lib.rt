@@ -1,134 +1,50 @@
 // Kinds 0 to 16: the defined, function and resource types of the component binary document.
 use fields::Answer;
-use fields::Field;
-use fields::Found;
+use fields::Close;
+use fields::Form;
+use fields::Front;
+use fields::Plain;
 use fields::Read;
+use fields::Tail;
+use fields::Unit;
 ghost use mathlib.Core.Path.{_≡_};
+ghost use Rattle.fields.specs.Form.{foundIn};
 ghost use Rattle.fields.specs.Read.{leftRow};
 ghost use Rattle.fields.specs.Write.{left};
 ghost use Rattle.types.specs.Read.{kindOf, leadGrade, readType};
 ghost use Rattle.types.specs.Write.{shapeOf, measuredType, writeType};
 
-// The shape of a kind: a line of the table for each.
-fn shape_of(kind: u32) -> Found
-    ensures { λ r. ⌜ r ≡ shapeOf kind ⌝ }
+// The form of a kind: a line of the table for each.
+fn form_of(kind: u32) -> Form
+    ensures { λ r. ⌜ foundIn r ≡ shapeOf kind ⌝ }
 {
     match kind {
-        0 => fields::two_of(
-            Field::Nothing,
-            Field::Nothing,
-            Field::Primitive,
-            Field::Nothing,
+        0 => Form::Primitive,
+        1 => Form::List(Front::Byte(0x72), Unit::Named(Tail::Value), Close::Nothing),
+        2 => Form::List(Front::Byte(0x71), Unit::Named(Tail::Case), Close::Nothing),
+        3 => Form::Pair(0x70, Plain::Value, Plain::Nothing),
+        4 => Form::Pair(0x63, Plain::Value, Plain::Value),
+        5 => Form::Pair(0x67, Plain::Value, Plain::Index),
+        6 => Form::List(Front::Byte(0x6f), Unit::Values, Close::Nothing),
+        7 => Form::List(
+            Front::Byte(0x6e),
+            Unit::Named(Tail::Nothing),
+            Close::Nothing,
         ),
-        1 => fields::many_of(
-            Field::Fixed(0x72),
-            Field::Nothing,
-            Field::Nothing,
-            Field::Name,
-            Field::Value,
-            Field::Nothing,
+        8 => Form::List(
+            Front::Byte(0x6d),
+            Unit::Named(Tail::Nothing),
+            Close::Nothing,
         ),
-        2 => fields::many_of(
-            Field::Fixed(0x71),
-            Field::Nothing,
-            Field::Nothing,
-            Field::Name,
-            Field::OptionalThenZero,
-            Field::Nothing,
-        ),
-        3 => fields::two_of(
-            Field::Fixed(0x70),
-            Field::Nothing,
-            Field::Value,
-            Field::Nothing,
-        ),
-        4 => fields::two_of(
-            Field::Fixed(0x63),
-            Field::Nothing,
-            Field::Value,
-            Field::Value,
-        ),
-        5 => fields::two_of(
-            Field::Fixed(0x67),
-            Field::Nothing,
-            Field::Value,
-            Field::Index,
-        ),
-        6 => fields::many_of(
-            Field::Fixed(0x6f),
-            Field::Nothing,
-            Field::Nothing,
-            Field::Value,
-            Field::Nothing,
-            Field::Nothing,
-        ),
-        7 => fields::many_of(
-            Field::Fixed(0x6e),
-            Field::Nothing,
-            Field::Nothing,
-            Field::Name,
-            Field::Nothing,
-            Field::Nothing,
-        ),
-        8 => fields::many_of(
-            Field::Fixed(0x6d),
-            Field::Nothing,
-            Field::Nothing,
-            Field::Name,
-            Field::Nothing,
-            Field::Nothing,
-        ),
-        9 => fields::two_of(
-            Field::Fixed(0x6b),
-            Field::Nothing,
-            Field::Value,
-            Field::Nothing,
-        ),
-        10 => fields::two_of(
-            Field::Fixed(0x6a),
-            Field::Nothing,
-            Field::Optional,
-            Field::Optional,
-        ),
-        11 => fields::two_of(
-            Field::Fixed(0x69),
-            Field::Nothing,
-            Field::Index,
-            Field::Nothing,
-        ),
-        12 => fields::two_of(
-            Field::Fixed(0x68),
-            Field::Nothing,
-            Field::Index,
-            Field::Nothing,
-        ),
-        13 => fields::two_of(
-            Field::Fixed(0x65),
-            Field::Nothing,
-            Field::Optional,
-            Field::Nothing,
-        ),
-        14 => fields::two_of(
-            Field::Fixed(0x66),
-            Field::Nothing,
-            Field::Optional,
-            Field::Nothing,
-        ),
-        15 => fields::many_of(
-            Field::Nothing,
-            Field::Nothing,
-            Field::Async,
-            Field::Name,
-            Field::Value,
-            Field::Result,
-        ),
-        16 => fields::two_of(
-            Field::Fixed(0x3f),
-            Field::Nothing,
-            Field::Rep,
-            Field::OptionalIndex,
-        ),
-        _ => Found::Not,
+        9 => Form::Pair(0x6b, Plain::Value, Plain::Nothing),
+        10 => Form::Pair(0x6a, Plain::Optional, Plain::Optional),
+        11 => Form::Pair(0x69, Plain::Index, Plain::Nothing),
+        12 => Form::Pair(0x68, Plain::Index, Plain::Nothing),
+        13 => Form::Pair(0x65, Plain::Optional, Plain::Nothing),
+        14 => Form::Pair(0x66, Plain::Optional, Plain::Nothing),
+        15 => Form::List(Front::Async, Unit::Named(Tail::Value), Close::Result),
+        16 => Form::Pair(0x3f, Plain::Rep, Plain::OptionalIndex),
+        _ => Form::Not,
     }
 }
 
@@ -136,16 +52,16 @@ fn shape_of(kind: u32) -> Found
 pub fn measure(row: &[u32], pool: &[u8]) -> Answer
     ensures { λ r. ⌜ r ≡ measuredType (now (row .entry)) (now (pool .entry)) ⌝ }
 {
-    let shape = shape_of(fields::kind_of(row));
-    fields::measure_row(shape, row, pool)
+    let form = form_of(fields::kind_of(row));
+    fields::measure_form(form, row, pool)
 }
 
 // A type row judged beside its pool, and written into out from `at` on.
 pub fn write(row: &[u32], pool: &[u8], out: &mut [u8], at: usize) -> Answer
     ensures { λ r. ⌜ left r (now (out .exit)) ≡ writeType (now (row .entry)) (now (pool .entry)) (now (out .entry)) at ⌝ }
 {
-    let shape = shape_of(fields::kind_of(row));
-    fields::write_row(shape, row, pool, out, at)
+    let form = form_of(fields::kind_of(row));
+    fields::write_form(form, row, pool, out, at)
 }
 
 // The kind of the items that begin with a byte; 17 is no type's.
@@ -199,7 +115,7 @@ pub fn read(input: &[u8], grade: u32, row: &mut [u32]) -> Read
     ensures { λ r. ⌜ leftRow r (now (row .exit)) ≡ readType grade (now (input .entry)) (now (row .entry)) ⌝ }
 {
     let kind = kind_of(fields::first_of(input));
-    let shape = shape_of(kind);
+    let form = form_of(kind);
     let lead = lead_grade(kind);
-    fields::read_item(shape, kind, lead, grade, input, row)
+    fields::read_form(form, kind, lead, grade, input, row)
 }

@@ -1,27 +1,20 @@
--- `put_name` stores the length and then the part of the pool (`of-stores`), for which there is room.
+-- `put_name` stores the length and then the part of the pool (`then`), for which there is room.
 use native.Mathlib.Omega.{arith}
 use native.Mathlib.Nat.{add-sub-cancel-left}
 use denote.Ref.{now}
 use Rattle.numbers.specs.Leb.{unsigned}
 use Rattle.fields.specs.Binary.{name, chars}
-use Rattle.fields.proofs.WroteLaws.{of-store, of-stores, room-first}
+use Rattle.fields.proofs.WroteLaws.{then, of-store, room-first, room-then}
 use borrow.Author.Needs.{needs}
 use Rattle.fields.proofs.put.put_name.Statement.{statement}
 use Rattle.fields.proofs.put.put_name.Tie as tie
 
 put-unsigned-requires : tie.Need-put-unsigned-requires
-put-unsigned-requires c κs = search needs
-
-stored-size-requires : tie.Need-stored-size-requires
-stored-size-requires c κs = search needs
-
-add-chars : tie.Need-add-chars
 unfolding name
-add-chars c =
-    let start = c .before .before .before .before .before .before .before in
+put-unsigned-requires c κs =
+    let start = c .before .before .before in
     let a = start .args in
-    let room = room-first (unsigned (a .size)) (chars (now (a .pool)) (a .start) (a .size)) _ _ (start .pre .1) in
-    omega (arith, room, of-store (c .before .before .before .put-unsigned .ensures) (c .stored-size .ensures) room .place)
+    room-first (unsigned (a .size)) (chars (now (a .pool)) (a .start) (a .size)) _ _ (start .pre .1)
 
 add-end : tie.Need-add-end
 add-end c = search needs
@@ -38,21 +31,19 @@ part-copy-end c = search needs
 copy-requires : tie.Need-copy-requires
 copy-requires c κs = search needs
 
-stored-size-requires-2 : tie.Need-stored-size-requires-2
-stored-size-requires-2 c κs = search needs
+stored-size-requires : tie.Need-stored-size-requires
+stored-size-requires c κs = search needs
 
 returns : tie.Need-returns
 unfolding name
 returns c =
     let copied = c .before .before .before in
-    let measured = copied .before .before .before in
-    let stored = measured .before .before .before in
-    let start = stored .before .before .before .before in
+    let count = copied .before .before .before .before .before in
+    let start = count .before .before .before .before in
     let a = start .args in
-    of-stores (unsigned (a .size)) (chars (now (a .pool)) (a .start) (a .size))
-    (stored .put-unsigned .ensures) (measured .stored-size .ensures)
-    (rw add-sub-cancel-left at (copied .copy .ensures)) (c .stored-size2 .ensures)
-    (start .pre .1)
+    then (count .put-unsigned .ensures)
+    (of-store (rw add-sub-cancel-left at (copied .copy .ensures)) (c .stored-size .ensures)
+    (room-then (count .put-unsigned .ensures) (chars (now (a .pool)) (a .start) (a .size)) (start .pre .1)))
 
 add-result : tie.Need-add-result
 add-result c = omega (arith, returns c .place)
@@ -65,14 +56,12 @@ put-name-spec =
     tie.close
     (tie.spec
     put-unsigned-requires
-    stored-size-requires
-    add-chars
     add-end
     sub-copy
     part-copy-start
     part-copy-end
     copy-requires
-    stored-size-requires-2
+    stored-size-requires
     add-result
     same-length
     returns)

@@ -1,0 +1,22 @@
+-- `fields::form::close_field` meets its contract: each arm is a line of the definition.
+use borrow.Author.Needs.{needs}
+use Rattle.fields.specs.Form.{closeField}
+use Rattle.fields.proofs.form.close_field.Statement.{statement}
+use Rattle.fields.proofs.form.close_field.Tie as tie
+
+enum-told : tie.Need-enum-told
+enum-told c = search needs
+
+enum-told-2 : tie.Need-enum-told-2
+enum-told-2 c = search needs
+
+returns : tie.Need-returns
+unfolding closeField
+returns c = simp (c .enum-told .given .1)
+
+returns-2 : tie.Need-returns-2
+unfolding closeField
+returns-2 c = simp (c .enum-told2 .given .1)
+
+pub close-field-spec : {M : Type 1} → statement M
+close-field-spec = tie.close (tie.spec enum-told enum-told-2 returns returns-2)

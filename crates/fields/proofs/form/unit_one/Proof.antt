@@ -1,0 +1,22 @@
+-- `fields::form::unit_one` meets its contract: each arm is a line of the definition.
+use borrow.Author.Needs.{needs}
+use Rattle.fields.specs.Form.{unitOne}
+use Rattle.fields.proofs.form.unit_one.Statement.{statement}
+use Rattle.fields.proofs.form.unit_one.Tie as tie
+
+enum-told : tie.Need-enum-told
+enum-told c = search needs
+
+enum-told-2 : tie.Need-enum-told-2
+enum-told-2 c = search needs
+
+returns : tie.Need-returns
+unfolding unitOne
+returns c = simp (c .enum-told .given .1)
+
+returns-2 : tie.Need-returns-2
+unfolding unitOne
+returns-2 c = simp (c .enum-told2 .given .1)
+
+pub unit-one-spec : {M : Type 1} → statement M
+unit-one-spec = tie.close (tie.spec enum-told enum-told-2 returns returns-2)
