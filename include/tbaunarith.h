@@ -74,7 +74,7 @@ tb_reply tb_result(uint64_t state[5], uint32_t tag, uint32_t x, uint8_t *body, s
 tb_reply tb_abandon(uint64_t state[5], uint8_t *body, size_t body_size);
 
 /* The finished section at the front of out: id, size, count, body. The state stays. */
-tb_reply tb_finish(uint64_t state[5], const uint8_t *body, size_t body_size, uint8_t *out, size_t out_size);
+tb_reply tb_finish(const uint64_t state[5], const uint8_t *body, size_t body_size, uint8_t *out, size_t out_size);
 
 #ifdef __cplusplus
 }

@@ -56,7 +56,7 @@ mod c {
         pub fn tb_params(state: *mut [u64; 5], words: *const u32, count: usize, pool: *const u8, pool_size: usize, body: *mut u8, body_size: usize) -> Reply;
         pub fn tb_result(state: *mut [u64; 5], tag: u32, x: u32, body: *mut u8, body_size: usize) -> Reply;
         pub fn tb_abandon(state: *mut [u64; 5], body: *mut u8, body_size: usize) -> Reply;
-        pub fn tb_finish(state: *mut [u64; 5], body: *const u8, body_size: usize, out: *mut u8, out_size: usize) -> Reply;
+        pub fn tb_finish(state: *const [u64; 5], body: *const u8, body_size: usize, out: *mut u8, out_size: usize) -> Reply;
     }
 }
 
@@ -144,7 +144,7 @@ impl Section {
     }
 
     /// The finished section at the front of `out`, whose size is returned. The state stays.
-    pub fn finish(&mut self, body: &[u8], out: &mut [u8]) -> Result<usize, Refused> {
-        unsafe { c::tb_finish(&mut self.state, body.as_ptr(), body.len(), out.as_mut_ptr(), out.len()) }.size()
+    pub fn finish(&self, body: &[u8], out: &mut [u8]) -> Result<usize, Refused> {
+        unsafe { c::tb_finish(&self.state, body.as_ptr(), body.len(), out.as_mut_ptr(), out.len()) }.size()
     }
 }

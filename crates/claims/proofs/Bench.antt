@@ -75,7 +75,7 @@ bench-is-written = (
                         refl,
                         (
                           refl,
-                          ((λ room. refl), ((λ room. refl), ((λ room. refl), ((λ room. refl), tt)))),
+                          (refl, ((λ room. refl), ((λ room. refl), ((λ room. refl), ((λ room. refl), tt))))),
                         ),
                       ),
                     ),

@@ -66,7 +66,9 @@ bench =
     -- same, version suffix `1`
     ∷ imports (17 ∷ 0 ∷ 1 ∷ 0 ∷ 0 ∷ 0 ∷ 1 ∷ 1 ∷ 1 ∷ 0 ∷ 0 ∷ 0 ∷ 1 ∷ 0 ∷ 0 ∷ []) (0x66 ∷ 0x31 ∷ [])
     (0x02 ∷ 0x01 ∷ 0x66 ∷ 0x01 ∷ 0x01 ∷ 0x01 ∷ 0x31 ∷ 0x01 ∷ 0x00 ∷ [])
-    -- record x error-context, read at grade 1
+    -- record x error-context
+    ∷ type (1 ∷ 1 ∷ 0 ∷ 1 ∷ 0 ∷ 13 ∷ []) (0x78 ∷ []) (0x72 ∷ 0x01 ∷ 0x01 ∷ 0x78 ∷ 0x64 ∷ [])
+    -- the same, read at grade 1
     ∷ typeRead 1 (0x72 ∷ 0x01 ∷ 0x01 ∷ 0x78 ∷ 0x64 ∷ []) refusal.Newer 4
     -- map string to u32, read at grade 2
     ∷ typeRead 2 (0x63 ∷ 0x73 ∷ 0x79 ∷ []) refusal.Newer 0

@@ -1,1 +1,10 @@
+pub mod Bad
 pub mod Bench
+pub mod Demand2
+pub mod Demand3
+pub mod Kept
+pub mod Numbers
+pub mod One
+pub mod OneCalls
+pub mod Steps
+pub mod Valid

@@ -1,7 +1,7 @@
 -- What was written is read back, for every plan, from the law of each field; or it is refused at its first byte above the grade.
 use Prim.Native.Nat.{ℕ, _+_}
 use native.Mathlib.Omega.{arith}
-use mathlib.Core.Path.{_≡_, refl, sym, ap, _∙_}
+use mathlib.Core.Path.{_≡_, refl, sym, ap, _∙_, subst}
 use mathlib.Core.List.{List, [], _++_, append-assoc, append-nil}
 use lib.ListN.{length, drop, length-append}
 use lib.Seq.{drop-at, drop-drop}
@@ -11,16 +11,16 @@ use Rattle.fields.specs.declared.Flaw.the-variants.{Right, Wrong}
 use Rattle.fields.specs.declared.Refusal.the-variants.{Newer}
 use Rattle.fields.specs.declared.Leaf.{Leaf}
 use Rattle.fields.specs.declared.Leaf.the-variants.{Fine, Bad}
-use Rattle.fields.specs.Binary.{bytes}
+use Rattle.fields.specs.Binary.{Words, bytes}
 use Rattle.fields.specs.Fill.{fill}
 use Rattle.fields.specs.Judge.{wide, flaw, unless, judge}
-use Rattle.fields.specs.Mark.{Mark, Clear, At, mark, views, planWidth, ahead, firstMark}
+use Rattle.fields.specs.Mark.{Mark, Clear, At, mark, planWidth, ahead, firstMark, SameFields}
 use Rattle.fields.specs.Read.{reader}
 use Rattle.fields.specs.Scan.{scan}
-use Rattle.fields.specs.View.{view}
+use Rattle.fields.specs.View.{view, said}
 use Rattle.fields.specs.Walk.{Plan, end, step, next, took, walk, outs}
 use Rattle.fields.specs.Write.{writer}
-use Rattle.fields.proofs.ByteLaws.{Words, drop-words}
+use Rattle.fields.proofs.ByteLaws.{drop-words}
 
 -- a walk that meets no fault
 abbrev pub Reaches : Leaf → Type 0
@@ -44,7 +44,7 @@ got (At j) w w′ e e′ q q′ A A′ a b c d g = a ∙ g
 -- the words that are read say beside the input what the row says beside its pool, and are as many
 pub record Retells (pool input : List ℕ) (p : Plan) (ws words : List ℕ) : Type 0 where
   pub long : length words ≡ planWidth pool p ws
-  pub same : (more : List ℕ) → views input p (words ++ more) ≡ views pool p ws
+  pub same : (more : List ℕ) → SameFields pool input p ws (words ++ more)
 
 -- a field whose words stand at the front of ws is read back, its bytes standing at b of the input with `rest` behind them; where
 -- no byte is above the grade, the words that are read say the same
@@ -52,6 +52,7 @@ pub record Back (lead g : ℕ) (pool input : List ℕ) (f : Field) (ws rest : Li
   pub scans : scan lead g f (bytes pool f ws ++ rest) ≡ answer (mark lead g f ws) (length (bytes pool f ws)) (wide f)
   pub fills : length (fill g f b (bytes pool f ws ++ rest)) ≡ wide f
   pub says : mark lead g f ws ≡ Clear → (more : List ℕ) → view input f (fill g f b (bytes pool f ws ++ rest) ++ more) ≡ view pool f ws
+  pub same : mark lead g f ws ≡ Clear → (more : List ℕ) → said input f (fill g f b (bytes pool f ws ++ rest) ++ more) ≡ said pool f ws
 
 module _ (lead g : ℕ) (pool input : List ℕ)
     (back : (f : Field) (ws : List ℕ) → Words ws → flaw pool f ws ≡ Right → (rest : List ℕ) (b : ℕ)
@@ -61,8 +62,8 @@ module _ (lead g : ℕ) (pool input : List ℕ)
       → Got (firstMark lead g pool p ws b) (walk (reader lead g input) p (outs (writer pool) p at ws ++ rest) b c)
       (b + length (outs (writer pool) p at ws)) (c + planWidth pool p ws)
       (Retells pool input p ws (outs (reader lead g input) p b (outs (writer pool) p at ws ++ rest)))
-  unfolding walk planWidth outs views firstMark judge
-  read-back end ws at made fw r rest b c q = ((λ i. Fine (zeros b i) (zeros c i)), record { long = refl; same = λ more. refl })
+  unfolding walk planWidth outs SameFields firstMark judge
+  read-back end ws at made fw r rest b c q = ((λ i. Fine (zeros b i) (zeros c i)), record { long = refl; same = λ more. tt })
     where
       zeros : (n : ℕ) → n ≡ n + 0
       zeros n = omega arith
@@ -144,10 +145,10 @@ module _ (lead g : ℕ) (pool input : List ℕ)
                 long = ap length all ∙ omega (arith, length-append ws′ more′);
                 same = λ more.
                     let more″ = more′ ++ more in
-                    ap (λ l. views input (step f k) (l ++ more)) all
-                    ∙ ap (λ l. views input (step f k) l) (append-assoc ws′ more′ more)
-                    ∙ ap (λ l. l ++ views input (k l) (drop t (ws′ ++ more″))) (h .says eM more″)
-                    ∙ ap (λ l. view pool f ws ++ views input p l) (drop-at ws′ more″ t lw)
-                    ∙ ap (λ l. view pool f ws ++ l) (r .same more);
+                    let whole : outs y (step f k) b (X t) ++ more ≡ ws′ ++ more″ = ap (λ l. l ++ more) all ∙ append-assoc ws′ more′ more in
+                    let past : drop t (outs y (step f k) b (X t) ++ more) ≡ more″ = ap (λ l. drop t l) whole ∙ drop-at ws′ more″ t lw in (
+                      ap (λ l. said input f l) whole ∙ h .same eM more″,
+                      subst (λ l. SameFields pool input p (drop t ws) l) (sym past) (r .same more),
+                    );
               })
               (ih u dQ)

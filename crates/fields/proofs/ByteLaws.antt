@@ -14,7 +14,7 @@ use Rattle.numbers.proofs.LebLaws.{put-bytes}
 use Rattle.fields.specs.declared.Field.{Field}
 use Rattle.fields.specs.declared.Field.the-variants as field
 use Rattle.fields.specs.declared.Flaw.the-variants.{Right}
-use Rattle.fields.specs.Binary.{pick, word, chars, name, primvaltype, valtype, optional, resultlist, functype, flag, representation, destructor, indexed, canonopt, slotAt, slotsAt, slots, externname, typebound, externdesc, bytes}
+use Rattle.fields.specs.Binary.{pick, word, Words, chars, name, primvaltype, valtype, optional, resultlist, functype, flag, representation, destructor, indexed, canonopt, slotAt, slotsAt, slots, externname, typebound, externdesc, bytes}
 use Rattle.fields.specs.Judge.{flaw}
 use Rattle.fields.proofs.FlawLaws.{choice-below, reference-below}
 
@@ -57,9 +57,6 @@ pick-byte true f g = f
 pick-byte false f g = g
 
 -- ---- words of 32 bits
-
-abbrev pub Words : List ℕ → Type 0
-Words ws = (i : ℕ) → getD ws i 0 < 2 ^ 32
 
 pub drop-words : (k : ℕ) (ws : List ℕ) → Words ws → Words (drop k ws)
 drop-words k ws f i = rw (getD-drop k ws i 0) (f (k + i))

@@ -20,15 +20,15 @@ use Rattle.fields.specs.declared.Flaw.the-variants.{Right, Wrong}
 use Rattle.fields.specs.declared.Refusal.the-variants.{Tag, Newer}
 use Rattle.fields.specs.declared.Leaf.{Leaf}
 use Rattle.fields.specs.declared.Leaf.the-variants.{Fine, Bad}
-use Rattle.fields.specs.Binary.{pick, word, chars, name, flag, slotAt, slotsAt, slots, externname, bytes}
+use Rattle.fields.specs.Binary.{pick, word, Words, chars, name, flag, slotAt, slotsAt, slots, externname, bytes}
 use Rattle.fields.specs.Fill.{sizeIn, valueIn, fillName, fillSlot, fillSlots, fillExtern, fill}
 use Rattle.fields.specs.Judge.{wide, then, named, optionalName}
 use Rattle.fields.specs.Mark.{Mark, Clear, At, mark}
 use Rattle.fields.specs.Scan as scans
 use Rattle.fields.specs.Scan.{byte, past, scanName, onward, stringAt, countAt, counted, slotScan, endScan, headScan, firstScan, secondScan, scanExtern, scan}
-use Rattle.fields.specs.View.{view}
+use Rattle.fields.specs.View.{Word, Name, view, said}
 use Rattle.fields.proofs.Back.{Back, answer}
-use Rattle.fields.proofs.ByteLaws.{Words, flag-small}
+use Rattle.fields.proofs.ByteLaws.{flag-small}
 use Rattle.fields.proofs.FlawLaws.{name-inside, name-text, ExternRight}
 use Rattle.fields.proofs.SizeLaws.{inside-length}
 
@@ -305,7 +305,7 @@ head-and-slots n nm slots h = go (eqb n 0) refl
 
 pub extern-back : (lead g : ℕ) (pool input ws : List ℕ) → Words ws → ExternRight pool ws → (rest : List ℕ) (b : ℕ)
     → drop b input ≡ externname pool ws ++ rest → Back lead g pool input field.ExternName ws rest b
-unfolding externname slotsAt slotAt slots scan fill bytes mark view wide scanExtern firstScan secondScan endScan fillExtern fillSlots
+unfolding externname slotsAt slotAt slots scan fill bytes mark view said wide scanExtern firstScan secondScan endScan fillExtern fillSlots
 extern-back lead g pool input ws fw right rest b inp = go (optionMark g n) refl scanned
   where
     nm : List ℕ
@@ -364,6 +364,7 @@ extern-back lead g pool input ws fw right rest b inp = go (optionMark g n) refl 
               ∙ ap (λ m. answer m (length (externname pool ws)) 11) (sym em);
           fills = extern-long g b xs;
           says = λ c more. let z : _≡_ {A = ℕ} 0 1 = cc in absurd (omega arith);
+          same = λ c more. let z : _≡_ {A = ℕ} 0 1 = cc in absurd (omega arith);
         }
     go Clear em s =
         let p₂ = slot-right pool ws 2 fw (right .implements) in
@@ -407,4 +408,8 @@ extern-back lead g pool input ws fw right rest b inp = go (optionMark g n) refl 
               ap (λ l. view input field.ExternName (l ++ more)) words
               ∙ (λ i. (word ws 1 ∷ c₀ i)
               ++ ((word ws 2 ∷ word ws 4 ∷ c₂ i) ++ ((word ws 5 ∷ word ws 7 ∷ c₅ i) ++ (word ws 8 ∷ word ws 10 ∷ c₈ i))));
+          same = λ c more.
+              ap (λ l. said input field.ExternName (l ++ more)) words
+              ∙ (λ i. Name (word ws 1) (c₀ i) ∷ Word (word ws 2) ∷ Name (word ws 4) (c₂ i) ∷ Word (word ws 5) ∷ Name (word ws 7) (c₅ i)
+              ∷ Word (word ws 8) ∷ Name (word ws 10) (c₈ i) ∷ []);
         }

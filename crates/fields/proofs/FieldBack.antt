@@ -17,14 +17,13 @@ use Rattle.fields.specs.declared.Flaw.the-variants.{Right, Wrong}
 use Rattle.fields.specs.declared.Refusal.the-variants.{Tag, Newer}
 use Rattle.fields.specs.declared.Leaf.{Leaf}
 use Rattle.fields.specs.declared.Leaf.the-variants.{Fine, Bad}
-use Rattle.fields.specs.Binary.{pick, word, name, primvaltype, valtype, optional, resultlist, functype, flag, representation, destructor, indexed, canonopt, typebound, externdesc, bytes}
+use Rattle.fields.specs.Binary.{pick, word, Words, name, primvaltype, valtype, optional, resultlist, functype, flag, representation, destructor, indexed, canonopt, typebound, externdesc, bytes}
 use Rattle.fields.specs.Fill.{index, primitive, fillValue, fillOptional, fillReference, fill}
 use Rattle.fields.specs.Judge.{wide, below, value, optionalValue, optionalIndex, choice, reference, flaw}
 use Rattle.fields.specs.Mark.{Mark, Clear, At, primitiveGrade, valueMark, mark}
 use Rattle.fields.specs.Scan.{byte, past, numbered, scanIndex, scanPrimitive, scanValue, scanOptional, thenZero, scanResult, scanChoice, scanBound, scanModule, three, scanReference, scanEither, scanOptionalIndex, scan}
-use Rattle.fields.specs.View.{view}
+use Rattle.fields.specs.View.{Name, view, said}
 use Rattle.fields.proofs.Back.{Back, answer}
-use Rattle.fields.proofs.ByteLaws.{Words}
 use Rattle.fields.proofs.ExternBack.{name-right, name-back, extern-back}
 use Rattle.fields.proofs.FlawLaws.{extern-right}
 
@@ -385,9 +384,15 @@ module _ (g : ℕ) (any : 1 ≤ g) (rest : List ℕ) where
 as-words : {lead g : ℕ} {pool input : List ℕ} {f : Field} {ws rest : List ℕ} {b : ℕ} (words : List ℕ)
     → scan lead g f (bytes pool f ws ++ rest) ≡ answer (mark lead g f ws) (length (bytes pool f ws)) (wide f)
     → fill g f b (bytes pool f ws ++ rest) ≡ words → length words ≡ wide f
-    → ((more : List ℕ) → view input f (words ++ more) ≡ view pool f ws) → Back lead g pool input f ws rest b
-as-words {input = input} {f} words s e l v =
-    record { scans = s; fills = ap length e ∙ l; says = λ c more. ap (λ k. view input f (k ++ more)) e ∙ v more }
+    → ((more : List ℕ) → view input f (words ++ more) ≡ view pool f ws)
+    → ((more : List ℕ) → said input f (words ++ more) ≡ said pool f ws) → Back lead g pool input f ws rest b
+as-words {input = input} {f} words s e l v p =
+    record {
+      scans = s;
+      fills = ap length e ∙ l;
+      says = λ c more. ap (λ k. view input f (k ++ more)) e ∙ v more;
+      same = λ c more. ap (λ k. said input f (k ++ more)) e ∙ p more;
+    }
 
 module _ (lead g : ℕ) (any : 1 ≤ g) (pool input : List ℕ) where
   -- one of two bytes, the second of grade n
@@ -408,19 +413,19 @@ module _ (lead g : ℕ) (any : 1 ≤ g) (pool input : List ℕ) where
 
   pub field-back : (f : Field) (ws : List ℕ) → Words ws → flaw pool f ws ≡ Right → (rest : List ℕ) (b : ℕ)
       → drop b input ≡ bytes pool f ws ++ rest → Back lead g pool input f ws rest b
-  unfolding flaw bytes scan fill view wide mark functype flag representation
-  field-back field.Nothing ws fw e rest b q = as-words [] refl refl refl (λ more. refl)
+  unfolding flaw bytes scan fill view said wide mark functype flag representation
+  field-back field.Nothing ws fw e rest b q = as-words [] refl refl refl (λ more. refl) (λ more. refl)
   field-back (field.Fixed x) ws fw e rest b q =
-      as-words [] (simp (some-there, eq-eqb x x refl) (asked-answer (ltb g lead) 0 1 0)) refl refl (λ more. refl)
+      as-words [] (simp (some-there, eq-eqb x x refl) (asked-answer (ltb g lead) 0 1 0)) refl refl (λ more. refl) (λ more. refl)
   field-back field.Primitive ws fw e rest b q =
       let p = prime-right ws 0 e in
-      as-words (word ws 0 ∷ []) (simp some-there (prime-scans g any 1 p)) (ap (λ x. x ∷ []) (prime-says p)) refl (λ more. refl)
+      as-words (word ws 0 ∷ []) (simp some-there (prime-scans g any 1 p)) (ap (λ x. x ∷ []) (prime-says p)) refl (λ more. refl) (λ more. refl)
   field-back field.Value ws fw e rest b q =
       let v = value-right ws 0 fw e in
-      as-words (word ws 0 ∷ word ws 1 ∷ []) (value-scans g any rest v) (value-says g any rest v) refl (λ more. refl)
+      as-words (word ws 0 ∷ word ws 1 ∷ []) (value-scans g any rest v) (value-says g any rest v) refl (λ more. refl) (λ more. refl)
   field-back field.Optional ws fw e rest b q =
       let o = optional-right ws fw e in
-      as-words (word ws 0 ∷ word ws 1 ∷ []) (optional-scans g any rest o) (optional-says g any rest o) refl (λ more. refl)
+      as-words (word ws 0 ∷ word ws 1 ∷ []) (optional-scans g any rest o) (optional-says g any rest o) refl (λ more. refl) (λ more. refl)
   field-back field.OptionalThenZero ws fw e rest b q =
       let o = optional-right ws fw e in
       let bs = optional (word ws 0) (word ws 1) in
@@ -428,34 +433,34 @@ module _ (lead g : ℕ) (any : 1 ≤ g) (pool input : List ℕ) where
       as-words (word ws 0 ∷ word ws 1 ∷ [])
       (zero-behind bs rest (valueMark g (word ws 0) (word ws 1) 1) (scanOptional g ((bs ++ 0x00 ∷ []) ++ rest)) 2
       (ap (λ l. scanOptional g l) whole ∙ optional-scans g any (0x00 ∷ rest) o))
-      (ap (λ l. fillOptional 0x01 l) whole ∙ optional-says g any (0x00 ∷ rest) o) refl (λ more. refl)
+      (ap (λ l. fillOptional 0x01 l) whole ∙ optional-says g any (0x00 ∷ rest) o) refl (λ more. refl) (λ more. refl)
   field-back field.Result ws fw e rest b q =
       let o = optional-right ws fw e in
-      as-words (word ws 0 ∷ word ws 1 ∷ []) (result-scans g any rest o) (result-says g any rest o) refl (λ more. refl)
+      as-words (word ws 0 ∷ word ws 1 ∷ []) (result-scans g any rest o) (result-says g any rest o) refl (λ more. refl) (λ more. refl)
   field-back field.Name ws fw e rest b q =
       let back = name-back (name-right pool ws 0 fw e) input (name pool (word ws 0) (word ws 1) ++ rest) rest b 0 q refl in
       as-words ((b + (0 + length (unsigned (word ws 1)))) ∷ word ws 1 ∷ []) (back .scans) (back .fills) refl
-      (λ more. ap (λ l. word ws 1 ∷ l) (back .says))
+      (λ more. ap (λ l. word ws 1 ∷ l) (back .says)) (λ more. ap (λ l. Name (word ws 1) l ∷ []) (back .says))
   field-back field.Index ws fw e rest b q =
-      as-words (word ws 0 ∷ []) (index-scans (word ws 0) (fw 0) rest 1) (ap (λ x. x ∷ []) (index-says (word ws 0) (fw 0) rest)) refl (λ more. refl)
+      as-words (word ws 0 ∷ []) (index-scans (word ws 0) (fw 0) rest 1) (ap (λ x. x ∷ []) (index-says (word ws 0) (fw 0) rest)) refl (λ more. refl) (λ more. refl)
   field-back field.Async ws fw e rest b q =
       let k = bit-right ws e in
-      as-words (word ws 0 ∷ []) (bit-scans 2 0x40 0x43 k refl rest) (bit-says 0x40 0x43 k refl) refl (λ more. refl)
+      as-words (word ws 0 ∷ []) (bit-scans 2 0x40 0x43 k refl rest) (bit-says 0x40 0x43 k refl) refl (λ more. refl) (λ more. refl)
   field-back field.Flag ws fw e rest b q =
       let k = bit-right ws e in
       as-words (word ws 0 ∷ []) (bit-scans 1 0x00 0x01 k refl rest ∙ ap (λ m. answer m 1 1) (no-mark (eqb (word ws 0) 0)))
-      (bit-says 0x00 0x01 k refl) refl (λ more. refl)
+      (bit-says 0x00 0x01 k refl) refl (λ more. refl) (λ more. refl)
   field-back field.Rep ws fw e rest b q =
       let k = bit-right ws e in
       as-words (word ws 0 ∷ []) (bit-scans 1 0x7f 0x7e k refl rest ∙ ap (λ m. answer m 1 1) (no-mark (eqb (word ws 0) 0)))
-      (bit-says 0x7f 0x7e k refl) refl (λ more. refl)
+      (bit-says 0x7f 0x7e k refl) refl (λ more. refl) (λ more. refl)
   field-back field.OptionalIndex ws fw e rest b q =
       let p = present-right ws fw e in
-      as-words (word ws 0 ∷ word ws 1 ∷ []) (present-scans p rest) (present-says p rest) refl (λ more. refl)
+      as-words (word ws 0 ∷ word ws 1 ∷ []) (present-scans p rest) (present-says p rest) refl (λ more. refl) (λ more. refl)
   field-back field.Choice ws fw e rest b q =
       let c = choice-right ws fw e in
-      as-words (word ws 0 ∷ word ws 1 ∷ []) (choice-scans c rest) (choice-says c rest) refl (λ more. refl)
+      as-words (word ws 0 ∷ word ws 1 ∷ []) (choice-scans c rest) (choice-says c rest) refl (λ more. refl) (λ more. refl)
   field-back field.ExternName ws fw e rest b q = extern-back lead g pool input ws fw (extern-right pool ws e) rest b q
   field-back field.Reference ws fw e rest b q =
       let r = reference-right ws fw e in
-      as-words (word ws 0 ∷ word ws 1 ∷ word ws 2 ∷ []) (reference-scans g any rest r) (reference-says g any rest r) refl (λ more. refl)
+      as-words (word ws 0 ∷ word ws 1 ∷ word ws 2 ∷ []) (reference-scans g any rest r) (reference-says g any rest r) refl (λ more. refl) (λ more. refl)

@@ -23,9 +23,9 @@ use Rattle.fields.specs.declared.Found.the-variants.{Is, Not}
 use Rattle.fields.specs.declared.Read.{Read}
 use Rattle.fields.specs.declared.Read.the-variants.{Item, Refused}
 use Rattle.fields.specs.declared.Shape.{Shape}
-use Rattle.fields.specs.Binary.{pick, word, bytes}
+use Rattle.fields.specs.Binary.{pick, word, Words, bytes}
 use Rattle.fields.specs.Judge.{wide, flaw, unless, judge}
-use Rattle.fields.specs.Mark.{Mark, Clear, At, views, planWidth, firstMark, rowMark, SameItem}
+use Rattle.fields.specs.Mark.{Mark, Clear, At, planWidth, firstMark, rowMark, SameFields, SameItem}
 use Rattle.fields.specs.Read.{LeftRow, leftRow, reader, scanned, filled, roomed, readFound, readItem, Few}
 use Rattle.fields.specs.Row.{measuredRow, rowBytes, writeRow}
 use Rattle.fields.specs.Shape.{plan}
@@ -34,7 +34,6 @@ use Rattle.fields.specs.Walk.{Plan, end, step, next, walk, outs}
 use Rattle.fields.specs.Write.{writer, judged, written, stored}
 use Rattle.fields.proofs.AnswerLaws.{Sized}
 use Rattle.fields.proofs.Back.{Reaches, Got, Retells}
-use Rattle.fields.proofs.ByteLaws.{Words}
 use Rattle.fields.proofs.ReadLaws.{shape-back, shape-only}
 use Rattle.fields.proofs.WholeLaws.{accepted, sized-accepted, judged-ends, size-is-length, reaches-end}
 
@@ -148,7 +147,7 @@ item-back s lead g row pool m fw e rest input room q any top short some =
                   record {
                     kind = refl;
                     long = omega (arith, width);
-                    says = ap (λ l. views input (plan s) l) (sym (append-nil ws)) ∙ b .1 .same [];
+                    says = subst (λ l. SameFields pool input (plan s) (drop 1 row) l) (append-nil ws) (b .1 .same []);
                   };
             }
 

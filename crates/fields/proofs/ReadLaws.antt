@@ -8,13 +8,14 @@ use lib.ListN.{length, take, drop}
 use Rattle.numbers.specs.Bytes.{Bytes}
 use Rattle.fields.specs.declared.Leaf.the-variants.{Fine}
 use Rattle.fields.specs.declared.Shape.{Shape}
+use Rattle.fields.specs.Binary.{Words}
 use Rattle.fields.specs.Mark.{planWidth, firstMark}
 use Rattle.fields.specs.Read.{reader, scanned, filled}
 use Rattle.fields.specs.Shape.{plan}
 use Rattle.fields.specs.Walk.{walk, outs}
 use Rattle.fields.specs.Write.{writer, judged, written}
 use Rattle.fields.proofs.Back.{Reaches, Got, got, Retells, read-back}
-use Rattle.fields.proofs.ByteLaws.{Words, drop-words}
+use Rattle.fields.proofs.ByteLaws.{drop-words}
 use Rattle.fields.proofs.FieldBack.{field-back}
 use Rattle.fields.proofs.FieldOnly.{field-only}
 use Rattle.fields.proofs.Only.{read-only}

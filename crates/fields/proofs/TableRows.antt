@@ -19,7 +19,7 @@ use Rattle.fields.specs.declared.Answer.the-variants.{Size}
 use Rattle.fields.specs.declared.Found.{Found}
 use Rattle.fields.specs.declared.Found.the-variants.{Is, Not}
 use Rattle.fields.specs.declared.Shape.{Shape}
-use Rattle.fields.specs.Binary.{pick, word, bytes}
+use Rattle.fields.specs.Binary.{pick, word, Words, bytes}
 use Rattle.fields.specs.Judge.{wide, flaw, unless, judge}
 use Rattle.fields.specs.Row.{measuredRow, rowBytes}
 use Rattle.fields.specs.Run.{along, makes}
@@ -28,7 +28,7 @@ use Rattle.fields.specs.Table.{Line, shapeIn, productionIn}
 use Rattle.fields.specs.Walk.{next, took}
 use Rattle.fields.specs.Write.{bytesAt, judged, written}
 use Rattle.fields.proofs.AnswerLaws.{Sized, sized-stays}
-use Rattle.fields.proofs.ByteLaws.{ByteList, none, append-bytes, to-bytes, of-bytes, Words, drop-words, Byte, field-bytes}
+use Rattle.fields.proofs.ByteLaws.{ByteList, none, append-bytes, to-bytes, of-bytes, drop-words, Byte, field-bytes}
 use Rattle.fields.proofs.PutLaws.{countedFields, later, allFields, judged-along, shape-written}
 use Rattle.fields.proofs.TableLaws.{Agrees, All, as-production}
 use Rattle.fields.proofs.WholeLaws.{Accepted, accepted, size-is-length, never-too-big}

@@ -1,5 +1,5 @@
 -- The bytes of each field, as the productions of the core and component binary documents, over the words of a row.
-use Prim.Native.Nat.{ℕ, _+_, _-_}
+use Prim.Native.Nat.{ℕ, _+_, _-_, _^_, _<_}
 use mathlib.Core.Bool.{Bool, true, false}
 use mathlib.Core.List.{List, [], _∷_, _++_}
 use lib.Dec.{eqb, ltb}
@@ -15,6 +15,10 @@ pick false x y = y
 -- the word at i
 abbrev pub word : List ℕ → ℕ → ℕ
 word ws i = getD ws i 0
+
+-- each is a word of 32 bits
+abbrev pub Words : List ℕ → Type 0
+Words ws = (i : ℕ) → word ws i < 2 ^ 32
 
 -- the bytes of the name that starts at `start` of the pool
 abbrev pub chars : List ℕ → ℕ → ℕ → List ℕ

@@ -13,7 +13,7 @@ use Rattle.fields.specs.declared.Shape.{Shape}
 use Rattle.fields.specs.Binary.{pick, word, slots, bytes}
 use Rattle.fields.specs.Judge.{wide}
 use Rattle.fields.specs.Shape.{plan}
-use Rattle.fields.specs.View.{view}
+use Rattle.fields.specs.View.{view, said}
 use Rattle.fields.specs.Walk.{Plan, end, step}
 
 -- a field has no byte above the grade, or its first stands at a place of the field's bytes
@@ -50,12 +50,7 @@ mark lead g field.Choice ws = Clear
 mark lead g field.ExternName ws = pick (eqb (slots ws) 0) Clear (asks g 3 0)
 mark lead g field.Reference ws = pick (eqb (word ws 0) 2) (valueMark g (word ws 1) (word ws 2) 1) Clear
 
--- what the fields of a plan say, one after the other
-unfoldable pub views : List ℕ → Plan → List ℕ → List ℕ
-views pool end ws = []
-views pool (step f k) ws = view pool f ws ++ views pool (k (view pool f ws)) (drop (wide f) ws)
-
--- how many words they have
+-- how many words the fields of a plan have
 unfoldable pub planWidth : List ℕ → Plan → List ℕ → ℕ
 planWidth pool end ws = 0
 planWidth pool (step f k) ws = wide f + planWidth pool (k (view pool f ws)) (drop (wide f) ws)
@@ -75,8 +70,14 @@ unfoldable pub rowMark : Found → ℕ → ℕ → List ℕ → List ℕ → Mar
 rowMark (Is s) lead g pool row = firstMark lead g pool (plan s) (drop 1 row) 0
 rowMark Not lead g pool row = Clear
 
--- "same item": equal kinds, words other than name starts, and name bytes
+-- the fields of a plan, one after the other, say beside the input what they say beside the pool
+unfoldable pub SameFields : List ℕ → List ℕ → Plan → List ℕ → List ℕ → Type 0
+SameFields pool input end ws vs = Unit {0}
+SameFields pool input (step f k) ws vs =
+    (said input f vs ≡ said pool f ws) × SameFields pool input (k (view pool f ws)) (drop (wide f) ws) (drop (wide f) vs)
+
+-- "same item": equal kinds, words other than name starts, and name bytes, field by field
 pub record SameItem (s : Shape) (pool row input words : List ℕ) : Type 0 where
   pub kind : word words 0 ≡ word row 0
   pub long : length words ≡ length row
-  pub says : views input (plan s) (drop 1 words) ≡ views pool (plan s) (drop 1 row)
+  pub says : SameFields pool input (plan s) (drop 1 row) (drop 1 words)

@@ -14,13 +14,12 @@ use Rattle.fields.specs.declared.Field.the-variants as field
 use Rattle.fields.specs.declared.Found.the-variants.{Is, Not}
 use Rattle.fields.specs.declared.Read.the-variants.{Item}
 use Rattle.fields.specs.declared.Shape.{Shape}
-use Rattle.fields.specs.Binary.{pick, word, name, slots, slotsAt, externname, externdesc}
+use Rattle.fields.specs.Binary.{pick, word, Words, name, slots, slotsAt, externname, externdesc}
 use Rattle.fields.specs.Mark.{rowMark}
 use Rattle.fields.specs.Read.{leftRow, readItem, Few}
 use Rattle.fields.specs.Row.{rowBytes}
 use Rattle.fields.specs.Table.{twoOf, shapeIn, productionIn}
 use Rattle.fields.specs.Write.{stored}
-use Rattle.fields.proofs.ByteLaws.{Words}
 use Rattle.fields.proofs.ItemLaws.{ReadsBack, found-back, written-again, item-few}
 use Rattle.fields.proofs.WholeLaws.{accepted}
 use Rattle.imports.specs.Read.{readImport, importMark}

@@ -17,7 +17,8 @@ use Rattle.sections.specs.declared.Phase.the-variants.{Closed, Opened, A
 use Rattle.sections.specs.declared.Section.{Section}
 use Rattle.sections.specs.Section.{familyBytes, fresh, sounds}
 use Rattle.sections.specs.Steps.{Turn, asyncIn, paramsIn, resultIn, abandonIn, asyncing, paraming, resulting, abandoning}
-use Rattle.sections.proofs.TurnLaws.{Step, Row, Open, Async, Params, Result, Abandon, turn, Stand, runs, AllAccepted, Turns, refuses, stores, Grows, accepted-grows, grows-then, either, asyncShape, paramsShape, resultShape, shape-turns, row-turns, open-turns}
+use Rattle.sections.specs.Runs.{Step, Row, Open, Async, Params, Result, Abandon, turn, Stand, runs, AllAccepted, Entry, rows}
+use Rattle.sections.proofs.TurnLaws.{Turns, refuses, stores, Grows, accepted-grows, grows-then, either, asyncShape, paramsShape, resultShape, shape-turns, row-turns, open-turns}
 
 -- ---- outside what is counted
 
@@ -73,15 +74,6 @@ outside (Result tag x) s body = either (Kept s body) (sounds s (length body)) _ 
 outside Abandon s body = either (Kept s body) (sounds s (length body)) _ _ (abandon-kept s body (s .phase)) (refl, refl)
 
 -- ---- rows one after the other
-
--- a row beside its pool
-pub record Entry : Type 0 where
-  pub row : List ℕ
-  pub pool : List ℕ
-
-abbrev pub rows : List Entry → List Step
-rows [] = []
-rows (e ∷ es) = Row (e .row) (e .pool) ∷ rows es
 
 -- their bytes in order
 abbrev pub allBytes : ℕ → List Entry → List ℕ

@@ -26,7 +26,8 @@ use Rattle.sections.specs.declared.Phase.{Phase}
 use Rattle.sections.specs.declared.Phase.the-variants.{Closed}
 use Rattle.sections.specs.declared.Section.{Section}
 use Rattle.sections.specs.Steps.{paramsIn, paramsFrom, rowing, opening, asyncing, paraming}
-use Rattle.sections.proofs.TurnLaws.{Row, Open, Async, Params, Result, Stand, stand, runs, Accepted, AllAccepted, Grows, accepted-size, accepted-grows, grows-then, asyncShape, paramsShape, resultShape, row-turns, open-turns, open-family, async-turns, params-turns, result-turns}
+use Rattle.sections.specs.Runs.{Row, Open, Async, Params, Result, Stand, stand, runs, Accepted, AllAccepted}
+use Rattle.sections.proofs.TurnLaws.{Grows, accepted-size, accepted-grows, grows-then, asyncShape, paramsShape, resultShape, row-turns, open-turns, open-family, async-turns, params-turns, result-turns}
 
 -- ---- the bytes of each step
 

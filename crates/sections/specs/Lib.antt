@@ -1,3 +1,4 @@
 pub mod Finish
+pub mod Runs
 pub mod Section
 pub mod Steps

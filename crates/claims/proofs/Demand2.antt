@@ -1,0 +1,424 @@
+-- The proof of `specs/Demand2.antt`: what an accepted row is written as, and a finished section, and a sheet.
+use Prim.Native.Nat.{ℕ, zero, suc, _+_, _%_, _/_, _^_, _≤_, _<_}
+use native.Mathlib.Omega.{arith}
+use mathlib.Core.Path.{_≡_, refl, sym, ap, _∙_, subst}
+use mathlib.Core.Bool.{Bool, true, false, cond}
+use mathlib.Core.List.{List, [], _∷_, _++_, append-nil}
+use borrow.Author.Tests.{ltb-true, le-ltb, eqb-true, eq-eqb}
+use lib.Dec.{eqb, ltb, leb}
+use lib.ListN.{length, take, drop}
+use lib.Seq.{sets}
+use Rattle.numbers.specs.Bytes.{Bytes}
+use Rattle.numbers.specs.Leb.{bytesOf, unsigned}
+use Rattle.fields.specs.declared.Answer.{Answer}
+use Rattle.fields.specs.declared.Answer.the-variants.{Size, Refused}
+use Rattle.fields.specs.declared.Field.the-variants as field
+use Rattle.fields.specs.declared.Found.{Found}
+use Rattle.fields.specs.declared.Found.the-variants.{Is, Not}
+use Rattle.fields.specs.declared.Leaf.{Leaf}
+use Rattle.fields.specs.declared.Leaf.the-variants.{Fine, Bad}
+use Rattle.fields.specs.declared.Refusal.{Refusal}
+use Rattle.fields.specs.declared.Refusal.the-variants as refusal
+use Rattle.fields.specs.Binary.{pick, word, Words, canonopt, bytes}
+use Rattle.fields.specs.Judge.{wide}
+use Rattle.fields.specs.Row.{measuredRow, rowBytes}
+use Rattle.fields.specs.Shape.{plan, repeated, widths, rowWidth}
+use Rattle.fields.specs.Table.{Line, line, shapeIn, elements}
+use Rattle.fields.specs.Walk.{outs}
+use Rattle.fields.specs.Write as shapes
+use Rattle.fields.specs.Write.{Left, left, refuse, writer, stored}
+use Rattle.fields.proofs.AnswerLaws.{Sized}
+use Rattle.fields.proofs.ByteLaws.{ByteList, none, some, append-bytes, to-bytes, of-bytes}
+use Rattle.fields.proofs.TableLaws.{strings, written-right, group-bytes, same-elements}
+use Rattle.fields.proofs.TableRows.{every, row-of}
+use Rattle.fields.proofs.WholeLaws.{accepted}
+use Rattle.types.specs.Write as typeWrite
+use Rattle.types.specs.Write.{measuredType}
+use Rattle.types.proofs.Rows.{type-row}
+use Rattle.imports.specs.Write as importWrite
+use Rattle.imports.specs.Write.{measuredImport}
+use Rattle.imports.proofs.Rows.{import-row}
+use Rattle.canonicals.specs.Table as canonicalTable
+use Rattle.canonicals.specs.Table.{liftShape, lift}
+use Rattle.canonicals.specs.Write.{measuredCanonical, canonicalBytes}
+use Rattle.canonicals.proofs.Rows.{canonical-row}
+use Rattle.sections.specs.declared.Phase.the-variants.{Closed}
+use Rattle.sections.specs.declared.Section.{Section}
+use Rattle.sections.specs.declared.Turned.{Turned}
+use Rattle.sections.specs.Finish.{framed, framing, finishing}
+use Rattle.sections.specs.Runs.{Row, turn, runs, Accepted, AllAccepted, Entry, rows}
+use Rattle.sections.specs.Section.{fresh, knownFamily, opened, sounds, measuredFamily, familyBytes, writeFamily}
+use Rattle.sections.specs.Steps.{turned, gives, wrote, rowing}
+use Rattle.sections.proofs.BegunFresh.{allBytes, begun-fresh}
+use Rattle.sections.proofs.FamilyLaws.{family-stored, family-size}
+use Rattle.sections.proofs.TurnLaws.{accepted-size, accepted-grows, row-turns}
+use Rattle.sheets.specs.Frame as frame
+use Rattle.sheets.specs.Frame.{Rows, Are, Broken}
+use Rattle.sheets.specs.Sheet as sheet
+use Rattle.sheets.specs.Sheet.{familyOf, tried, tries, joined, ofRows, sheeted}
+use Rattle.sheets.specs.Steps.{listed}
+use Rattle.sheets.proofs.FamilyLaws.{family-written}
+use Rattle.claims.specs.Valid.{Family, types, canonicals, imports, Takes, Valid, production, productions, section, beside, entries}
+use Rattle.claims.specs.Demand2.{AllValid, AllWords, Made, Demand2}
+use Rattle.claims.proofs.Production.{family-production}
+
+-- a refusal is no size
+no-size : {X : Type 0} {w : Refusal} {n size : ℕ} → Refused w n ≡ Size size → X
+no-size e = let z : _≡_ {A = ℕ} 0 1 = cc in absurd (omega arith)
+
+-- ---- a row
+
+-- a row that has a size keeps within the limits, and so does its pool
+within : (family : ℕ) (row pool : List ℕ) (size : ℕ) → measuredFamily family row pool ≡ Size size → (length row ≤ 16384) × (length pool ≤ 65536)
+unfolding measuredFamily measuredType measuredImport measuredCanonical
+within family row pool size e = go (eqb family 7) (eqb family 8) e
+  where
+    of : (found : Found) → measuredRow found row pool ≡ Size size → (length row ≤ 16384) × (length pool ≤ 65536)
+    of found e = let k = accepted found row pool size e .sized in (k .short, k .small)
+
+    go : (a b : Bool) → pick a (measuredType row pool) (pick b (measuredCanonical row pool) (measuredImport row pool)) ≡ Size size
+        → (length row ≤ 16384) × (length pool ≤ 65536)
+    go true b e = of _ e
+    go false true e = of _ e
+    go false false e = of _ e
+
+-- a fresh section stands over any body
+stands : {family : ℕ} → Family family → (n : ℕ) → sounds (fresh family) n ≡ true
+unfolding sounds knownFamily
+stands types n = simp (le-ltb n 0 (omega arith))
+stands canonicals n = simp (le-ltb n 0 (omega arith))
+stands imports n = simp (le-ltb n 0 (omega arith))
+
+-- the section after its first row
+abbrev grown : ℕ → ℕ → Turned
+grown family size = gives (record { family = family; used = size; count = 1; phase = Closed }) (Size size)
+
+-- a row that has a size is taken where there is room
+takes : {family : ℕ} → Family family → (row pool body : List ℕ) (size : ℕ) → measuredFamily family row pool ≡ Size size → size ≤ length body
+    → rowing (fresh family) row pool body ≡ turned (grown family size) (sets body 0 (familyBytes family pool row))
+unfolding rowing
+takes {family} f row pool body size e h =
+    let w = within family row pool size e in
+    let room : 0 + size ≤ length body = omega arith in
+    let used : 0 + size ≡ size = omega arith in
+    simp (stands f (length body), le-ltb _ _ (w .0), le-ltb _ _ (w .1))
+    (ap (λ l. wrote (fresh family) 1 Closed l) (family-written family row pool body 0 size e room)
+    ∙ ap (λ n. turned (gives (record { family = family; used = n; count = 1; phase = Closed }) (Size size)) (sets body 0 (familyBytes family pool row))) used)
+
+-- and only such a row
+sized-where-taken : (family : ℕ) (row pool body : List ℕ) → Takes family row pool body
+    → (size : ℕ) × (measuredFamily family row pool ≡ Size size) × (size ≤ length body)
+sized-where-taken family row pool body t =
+    let r = row-turns (fresh family) body row pool in
+    (length (familyBytes family pool row), accepted-size r t, omega (arith, accepted-grows r t .room))
+
+taken-where-sized : {family : ℕ} → Family family → (row pool body : List ℕ) (size : ℕ) → measuredFamily family row pool ≡ Size size
+    → size ≤ length body → Takes family row pool body
+taken-where-sized f row pool body size e h = subst Accepted (sym (takes f row pool body size e h)) tt
+
+-- the size is the production's length
+production-size : (family : ℕ) (row pool : List ℕ) (size : ℕ) → measuredFamily family row pool ≡ Size size → size ≡ length (production family pool row)
+production-size family row pool size e = family-size family row pool size e ∙ ap length (family-production family row pool size e)
+
+-- so the body begins with the production
+written : {family : ℕ} → Family family → (row pool body : List ℕ) → Takes family row pool body
+    → rowing (fresh family) row pool body
+    ≡ turned (grown family (length (production family pool row))) (sets body 0 (production family pool row))
+written {family} f row pool body t =
+    let z = sized-where-taken family row pool body t in
+    takes f row pool body (z .0) (z .1) (z .2)
+    ∙ (λ i. turned (grown family (production-size family row pool (z .0) (z .1) i))
+    (sets body 0 (family-production family row pool (z .0) (z .1) i)))
+
+at-any-place : (family : ℕ) (row pool : List ℕ) → Valid family row pool → (out : List ℕ) (at : ℕ)
+    → writeFamily family row pool out at ≡ stored (Size (length (production family pool row))) (production family pool row) out at
+at-any-place family row pool v out at =
+    let z = sized-where-taken family row pool (v .0) (v .1) in
+    family-stored family row pool out at
+    ∙ (λ i. stored ((z .1 ∙ ap Size (production-size family row pool (z .0) (z .1))) i) (family-production family row pool (z .0) (z .1) i) out at)
+
+-- a row that has a size is valid
+valid-where-sized : {family : ℕ} → Family family → (row pool : List ℕ) (size : ℕ) → measuredFamily family row pool ≡ Size size → Valid family row pool
+valid-where-sized {family} f row pool size e =
+    let body = familyBytes family pool row in
+    (body, taken-where-sized f row pool body size e (omega (arith, family-size family row pool size e)))
+
+-- ---- a section
+
+-- rows that are all accepted are valid
+rows-are-valid : (family : ℕ) → Family family → (es : List Entry) (s : Section) (body : List ℕ) → s .family ≡ family → AllAccepted (rows es) s body
+    → AllValid family es
+rows-are-valid family f [] s body p a = tt
+rows-are-valid family f (e ∷ es) s body p a =
+    let r = row-turns s body (e .row) (e .pool) in
+    let g = accepted-grows r (a .0) in
+    let t = turn (Row (e .row) (e .pool)) s body in
+    let m = ap (λ k. measuredFamily k (e .row) (e .pool)) (sym p) ∙ accepted-size r (a .0) in
+    (valid-where-sized f (e .row) (e .pool) _ m, rows-are-valid family f es (t .gave .section) (t .body) (g .family ∙ p) (a .1))
+
+-- and valid rows make their productions
+all-productions : (family : ℕ) (es : List Entry) → AllValid family es → allBytes family es ≡ productions family es
+unfolding productions
+all-productions family [] v = refl
+all-productions family (e ∷ es) v =
+    let z = sized-where-taken family (e .row) (e .pool) (v .0 .0) (v .0 .1) in
+    λ i. family-production family (e .row) (e .pool) (z .0) (z .1) i ++ all-productions family es (v .1) i
+
+-- an answer that is a size came past the tests
+framing-made : (family count : ℕ) (body out : List ℕ) (size : ℕ) → framing family count body out .answer ≡ Size size
+    → let bytes = framed family (length (unsigned count) + length body) count body in
+    framing family count body out ≡ left (Size (length bytes)) (sets out 0 bytes)
+unfolding framing stored
+framing-made family count body out size e = go (ltb 4294967295 (length (unsigned count) + length body)) (leb (0 + length bytes) (length out)) e
+  where
+    bytes : List ℕ
+    bytes = framed family (length (unsigned count) + length body) count body
+
+    go : (a b : Bool)
+        → pick a (refuse refusal.TooBig 0 out) (pick b (left (Size (length bytes)) (sets out 0 bytes)) (refuse refusal.Room (length bytes) out)) .answer ≡ Size size
+        → pick a (refuse refusal.TooBig 0 out) (pick b (left (Size (length bytes)) (sets out 0 bytes)) (refuse refusal.Room (length bytes) out))
+        ≡ left (Size (length bytes)) (sets out 0 bytes)
+    go true b e = no-size e
+    go false true e = refl
+    go false false e = no-size e
+
+finishing-made : (s : Section) (body out : List ℕ) (size : ℕ) → finishing s body out .answer ≡ Size size
+    → finishing s body out ≡ framing (s .family) (s .count) (take (s .used) body) out
+unfolding finishing
+finishing-made s body out size e = go (sounds s (length body)) (opened (s .phase)) e
+  where
+    frames : Left
+    frames = framing (s .family) (s .count) (take (s .used) body) out
+
+    go : (a b : Bool) → pick a (pick b (refuse refusal.Order 0 out) frames) (refuse refusal.Limit 0 out) .answer ≡ Size size
+        → pick a (pick b (refuse refusal.Order 0 out) frames) (refuse refusal.Limit 0 out) ≡ frames
+    go true true e = no-size e
+    go true false e = refl
+    go false b e = no-size e
+
+-- the section at the end is framed over its used part, which is the productions
+finishes : (family : ℕ) → Family family → (es : List Entry) (body out : List ℕ) → AllAccepted (rows es) (fresh family) body → (size : ℕ)
+    → finishing (runs (rows es) (fresh family) body .section) (runs (rows es) (fresh family) body .body) out .answer ≡ Size size
+    → finishing (runs (rows es) (fresh family) body .section) (runs (rows es) (fresh family) body .body) out
+    ≡ left (Size (length (section family es))) (sets out 0 (section family es))
+finishes family f es body out a size e =
+    let b = begun-fresh family es body a in
+    let end = runs (rows es) (fresh family) body in
+    let made = finishing-made (end .section) (end .body) out size e in
+    let used = b .used-part ∙ all-productions family es (rows-are-valid family f es (fresh family) body refl a) in
+    let whole : finishing (end .section) (end .body) out ≡ framing family (length es) (productions family es) out =
+    made ∙ (λ i. framing (b .family-is i) (b .count-is i) (used i) out) in
+    whole ∙ framing-made family (length es) (productions family es) out size (ap (λ l. l .answer) (sym whole) ∙ e)
+
+-- ---- a sheet
+
+-- each kind has a section's family
+every-family : (kind : ℕ) → Family (familyOf kind)
+unfolding familyOf
+every-family kind = go (leb 256 kind) (eqb kind 17)
+  where
+    go : (a b : Bool) → Family (pick a 8 (pick b 10 7))
+    go true b = canonicals
+    go false true = imports
+    go false false = types
+
+-- rows that are taken, behind r others: how many they then are, and that they are valid and make their productions
+record TriedRows (family : ℕ) (pool : List ℕ) (rs : List (List ℕ)) (r last : ℕ) : Type 0 where
+  count : last ≡ r + length (beside pool rs)
+  valid : AllValid family (beside pool rs)
+  bytes : joined family pool rs ≡ productions family (beside pool rs)
+
+tried-rows : {family : ℕ} → Family family → (pool : List ℕ) (room : ℕ) (rs : List (List ℕ)) (r used last end : ℕ)
+    → tries family pool room rs r used ≡ Fine last end → TriedRows family pool rs r last
+unfolding tries joined productions
+tried-rows f pool room [] r used last end e =
+    let p : r ≡ last = cc in
+    record { count = omega arith; valid = tt; bytes = refl }
+tried-rows {family} f pool room (row ∷ rs) r used last end e =
+    go (measuredFamily family row pool) refl e (λ u. tried-rows f pool room rs (r + 1) u last end)
+  where
+    go : (a : Answer) → measuredFamily family row pool ≡ a → tried a room used r (λ u. tries family pool room rs (r + 1) u) ≡ Fine last end
+        → ((u : ℕ) → tries family pool room rs (r + 1) u ≡ Fine last end → TriedRows family pool rs (r + 1) last)
+        → TriedRows family pool (row ∷ rs) r last
+    go (Refused w n) m e ih = let z : _≡_ {A = ℕ} 0 1 = cc in absurd (omega arith)
+    go (Size size) m e ih = room-for (leb (used + size) room) e
+      where
+        room-for : (b : Bool) → pick b (tries family pool room rs (r + 1) (used + size)) (Bad refusal.Room r) ≡ Fine last end
+            → TriedRows family pool (row ∷ rs) r last
+        room-for true e =
+            let k = ih (used + size) e in
+            record {
+              count = omega (arith, k .count);
+              valid = (valid-where-sized f row pool size m, k .valid);
+              bytes = λ i. family-production family row pool size m i ++ k .bytes i;
+            }
+        room-for false e = let z : _≡_ {A = ℕ} 0 1 = cc in absurd (omega arith)
+
+-- a sheet whose answer is a size has its room
+sheet-finished : (family r : ℕ) (bytes body out : List ℕ) (size : ℕ) → sheet.finished family r bytes body out .answer ≡ Size size
+    → let all = sheet.section family r bytes in
+    sheet.finished family r bytes body out ≡ sheet.left (Size (length all)) (sets body 0 bytes) (sets out 0 all)
+unfolding sheet.finished
+sheet-finished family r bytes body out size e = go (leb (length all) (length out)) e
+  where
+    all : List ℕ
+    all = sheet.section family r bytes
+
+    whole : sheet.Left
+    whole = sheet.left (Size (length all)) (sets body 0 bytes) (sets out 0 all)
+
+    go : (b : Bool) → pick b whole (sheet.refuse refusal.Room r body out) .answer ≡ Size size → pick b whole (sheet.refuse refusal.Room r body out) ≡ whole
+    go true e = refl
+    go false e = no-size e
+
+-- the sheet of these rows
+made-rows : (rs : Rows) (pool body out : List ℕ) (size : ℕ) → ofRows rs pool body out .answer ≡ Size size
+    → Made (beside pool (listed rs)) body out (ofRows rs pool body out)
+made-rows Broken pool body out size e = no-size e
+made-rows (Are []) pool body out size e = no-size e
+made-rows (Are (row ∷ rs)) pool body out size e = go (tries family pool (length body) (row ∷ rs) 0 0) refl e
+  where
+    family : ℕ
+    family = familyOf (word row 0)
+
+    es : List Entry
+    es = beside pool (row ∷ rs)
+
+    go : (l : Leaf) → tries family pool (length body) (row ∷ rs) 0 0 ≡ l → sheet.written l family (joined family pool (row ∷ rs)) body out .answer ≡ Size size
+        → Made es body out (sheet.written l family (joined family pool (row ∷ rs)) body out)
+    go (Bad w n) p e = no-size e
+    go (Fine last end) p e =
+        let f = every-family (word row 0) in
+        let k = tried-rows f pool (length body) (row ∷ rs) 0 0 last end p in
+        let n : last ≡ length es = omega (arith, k .count) in
+        let whole = sheet-finished family last (joined family pool (row ∷ rs)) body out size e
+        ∙ (λ i. let all = sheet.section family (n i) (k .bytes i) in sheet.left (Size (length all)) (sets body 0 (k .bytes i)) (sets out 0 all)) in
+        record {
+          family = f;
+          valid = k .valid;
+          size = ap (λ l. l .answer) whole;
+          at-body = ap (λ l. l .body) whole;
+          at-out = ap (λ l. l .out) whole;
+        }
+
+made-sheet : (input body out : List ℕ) (size : ℕ) → sheeted input body out .answer ≡ Size size → Made (entries input) body out (sheeted input body out)
+unfolding sheeted
+made-sheet input body out size e = go (ltb 65536 (length input)) e
+  where
+    rest : sheet.Left
+    rest = ofRows (frame.framed input) (frame.poolOf input) body out
+
+    go : (b : Bool) → pick b (sheet.refuse refusal.Limit 0 body out) rest .answer ≡ Size size
+        → Made (entries input) body out (pick b (sheet.refuse refusal.Limit 0 body out) rest)
+    go true e = no-size e
+    go false e = made-rows (frame.framed input) (frame.poolOf input) body out size e
+
+-- ---- bytes
+
+-- a number's bytes are bytes
+leb-bytes : (k n : ℕ) → ByteList (bytesOf 128 k n)
+unfolding bytesOf
+leb-bytes zero n = none
+leb-bytes (suc k) n = go (ltb n 128) refl (leb-bytes k (n / 128))
+  where
+    go : (b : Bool) → ltb n 128 ≡ b → ByteList (bytesOf 128 k (n / 128)) → ByteList (cond b (n ∷ []) ((n % 128 + 128) ∷ bytesOf 128 k (n / 128)))
+    go true e f = let h : n < 128 = ltb-true n 128 e in some {b = n} (omega arith) none
+    go false e f = some {b = n % 128 + 128} (omega arith) f
+
+-- and so are those behind others
+back-bytes : (a : List ℕ) {b : List ℕ} → ByteList (a ++ b) → ByteList b
+back-bytes [] f = f
+back-bytes (x ∷ a) (some h f) = back-bytes a f
+
+-- what the shape of a lift writes, as a line of a table
+abbrev lifts : List Line
+lifts = line 256 liftShape (λ pool ws. outs (writer pool) (plan liftShape) 1 ws) ∷ []
+
+lift-written : (row pool : List ℕ) (size : ℕ) → word row 0 ≡ 256 → measuredRow (Is liftShape) row pool ≡ Size size → Words row → Bytes pool
+    → ByteList (shapes.written liftShape pool row 1)
+unfolding every shapeIn rowBytes widths wide
+lift-written row pool size k e fw fp =
+    let t : eqb (word row 0) 256 ≡ true = eq-eqb _ _ k in
+    let r = row-of lifts ((λ pool row e m r. refl), tt) refl row pool size (ap (λ b. measuredRow (pick b (Is liftShape) Not) row pool) t ∙ e) in
+    of-bytes _ (subst (λ b. Bytes (rowBytes (pick b (Is liftShape) Not) pool row)) t (r .are-bytes fw fp))
+
+-- a lift's bytes: the options stand last in what the shape writes, and the other parts are numbers
+lift-behind : (row pool : List ℕ) (size : ℕ) → Sized liftShape row 1 pool size → ByteList (shapes.written liftShape pool row 1)
+    → ByteList (lift (drop 1 row))
+unfolding strings widths rowWidth wide bytes lift
+lift-behind [] pool size k f = absurd (omega (arith, k .width))
+lift-behind (l ∷ []) pool size k f = absurd (omega (arith, k .width))
+lift-behind (l ∷ c ∷ []) pool size k f = absurd (omega (arith, k .width))
+lift-behind (l ∷ c ∷ t ∷ []) pool size k f = absurd (omega (arith, k .width))
+lift-behind (l ∷ c ∷ t ∷ n ∷ os) pool size k f =
+    let same : strings pool (repeated n (field.Choice ∷ field.Nothing ∷ []) ++ field.Nothing ∷ []) os
+    ≡ elements n 2 (λ vs. canonopt (word vs 0) (word vs 1)) os =
+    group-bytes pool field.Choice field.Nothing field.Nothing n os ∙ append-nil _
+    ∙ same-elements n 2 _ (λ vs. canonopt (word vs 0) (word vs 1)) (λ vs. append-nil _) os in
+    let whole = written-right liftShape pool (l ∷ c ∷ t ∷ n ∷ os) 1 (k .end) size (k .judges) in
+    let front : List ℕ = 0x00 ∷ 0x00 ∷ (unsigned c ++ (unsigned t ++ [])) in
+    let options = subst ByteList same (back-bytes (unsigned n) (back-bytes front (subst ByteList whole f))) in
+    some {b = 0x00} (omega arith)
+    (some {b = 0x00} (omega arith) (append-bytes (leb-bytes 5 c) (append-bytes (append-bytes (leb-bytes 5 n) options) (leb-bytes 5 t))))
+
+lift-bytes : (row pool : List ℕ) (size : ℕ) → word row 0 ≡ 256 → measuredRow (Is liftShape) row pool ≡ Size size → Words row → Bytes pool
+    → ByteList (lift (drop 1 row))
+lift-bytes row pool size k e fw fp =
+    let a = accepted (Is liftShape) row pool size e in
+    let same : a .shape ≡ liftShape = cc in
+    let sized : Sized liftShape row 1 pool size = rw same at (a .sized) in
+    lift-behind row pool size sized (lift-written row pool size k e fw fp)
+
+-- the bytes of a row of any family
+family-bytes : (family : ℕ) (row pool : List ℕ) (size : ℕ) → measuredFamily family row pool ≡ Size size → Words row → Bytes pool
+    → Bytes (familyBytes family pool row)
+unfolding measuredFamily familyBytes measuredCanonical canonicalBytes
+family-bytes family row pool size e fw fp = go (eqb family 7) (eqb family 8) e
+  where
+    canonical : (b : Bool) → eqb (word row 0) 256 ≡ b → measuredRow (pick b (Is liftShape) (shapeIn canonicalTable.table (word row 0))) row pool ≡ Size size
+        → Bytes (pick b (lift (drop 1 row)) (rowBytes (shapeIn canonicalTable.table (word row 0)) pool row))
+    canonical true t e = to-bytes (lift-bytes row pool size (eqb-true _ _ t) e fw fp)
+    canonical false t e = canonical-row row pool size e .are-bytes fw fp
+
+    go : (a b : Bool) → pick a (measuredType row pool) (pick b (measuredCanonical row pool) (measuredImport row pool)) ≡ Size size
+        → Bytes (pick a (rowBytes (typeWrite.shapeOf (word row 0)) pool row)
+        (pick b (canonicalBytes pool row) (rowBytes (importWrite.shapeOf (word row 0)) pool row)))
+    go true b e = type-row row pool size e .are-bytes fw fp
+    go false true e = canonical (eqb (word row 0) 256) refl e
+    go false false e = import-row row pool size e .are-bytes fw fp
+
+-- and of a production, which they are
+production-bytes : (family : ℕ) (row pool : List ℕ) → Valid family row pool → Words row → Bytes pool → Bytes (production family pool row)
+production-bytes family row pool v fw fp =
+    let z = sized-where-taken family row pool (v .0) (v .1) in
+    subst Bytes (family-production family row pool (z .0) (z .1)) (family-bytes family row pool (z .0) (z .1) fw fp)
+
+productions-bytes : (family : ℕ) (es : List Entry) → AllValid family es → AllWords es → ByteList (productions family es)
+unfolding productions
+productions-bytes family [] v w = none
+productions-bytes family (e ∷ es) v w =
+    append-bytes (of-bytes (production family (e .pool) (e .row)) (production-bytes family (e .row) (e .pool) (v .0) (w .0) (w .1)))
+    (productions-bytes family es (v .1) (w .2))
+
+-- the id is below 11, and the size and the count are numbers
+framed-bytes : {family : ℕ} → Family family → (es : List Entry) → AllValid family es → AllWords es → Bytes (section family es)
+framed-bytes {family} f es v w =
+    to-bytes (some (id-byte f) (append-bytes (leb-bytes 5 _) (append-bytes (leb-bytes 5 _) (productions-bytes family es v w))))
+  where
+    id-byte : {n : ℕ} → Family n → n < 2 ^ 8
+    id-byte types = omega arith
+    id-byte canonicals = omega arith
+    id-byte imports = omega arith
+
+pub demand-2 : Demand2
+demand-2 =
+    record {
+      valid-measured = λ family f row pool body. (sized-where-taken family row pool body, λ z. taken-where-sized f row pool body (z .0) (z .1) (z .2));
+      valid-written = λ family f row pool body t. written f row pool body t;
+      written-at = λ family f row pool v out at. at-any-place family row pool v out at;
+      finished = finishes;
+      sheet-made = made-sheet;
+      bytes = λ family f row pool v fw fp. production-bytes family row pool v fw fp;
+      rows-valid = λ family f es body a. rows-are-valid family f es (fresh family) body refl a;
+      section-bytes = λ family f es v w. framed-bytes f es v w;
+    }

@@ -1,0 +1,227 @@
+-- Demand 3, from the laws of reading a type and an import.
+use Prim.Native.Nat.{ℕ, _+_, _≤_, _<_, _^_}
+use native.Mathlib.Omega.{arith}
+use mathlib.Core.Path.{_≡_, refl, sym, ap, _∙_, subst}
+use mathlib.Core.Bool.{Bool, true, false}
+use mathlib.Core.List.{List, [], _∷_, _++_}
+use borrow.Author.Tests.{ltb-true, ltb-false}
+use lib.Dec.{eqb, ltb}
+use lib.ListN.{length, take}
+use Rattle.numbers.specs.Bytes.{Bytes}
+use Rattle.numbers.specs.Leb.{bytesOf}
+use Rattle.numbers.specs.Text.{text, rest, step}
+use Rattle.numbers.proofs.BytesLaws.{sets-back}
+use Rattle.fields.specs.declared.Answer.the-variants.{Size}
+use Rattle.fields.specs.declared.Found.{Found}
+use Rattle.fields.specs.declared.Found.the-variants.{Is, Not}
+use Rattle.fields.specs.declared.Read.the-variants.{Item, Refused}
+use Rattle.fields.specs.declared.Refusal.{Refusal}
+use Rattle.fields.specs.declared.Refusal.the-variants as refusal
+use Rattle.fields.specs.Binary.{pick, word, Words, name, bytes}
+use Rattle.fields.specs.Judge.{named, wide, flaw, judge}
+use Rattle.fields.specs.Mark.{Mark, Clear, At, SameFields}
+use Rattle.fields.specs.Read.{LeftRow, leftRow, readFound, readItem}
+use Rattle.fields.specs.Row.{measuredRow, rowBytes, writeRow}
+use Rattle.fields.specs.Scan.{byte}
+use Rattle.fields.specs.Shape.{repeated, seq, widths, rowWidth}
+use Rattle.fields.specs.Table.{shapeIn}
+use Rattle.fields.specs.View.{Name, view, said}
+use Rattle.fields.specs.Walk.{walk, outs}
+use Rattle.fields.specs.Write.{sized, measured, stored}
+use Rattle.fields.proofs.ItemLaws.{ReadsBack}
+use Rattle.types.specs.Read.{leadGrade, readType, typeMark}
+use Rattle.types.specs.Table as typeTable
+use Rattle.types.specs.Write as typeWrite
+use Rattle.types.specs.Write.{measuredType, writeType}
+use Rattle.types.proofs.ReadLaws.{type-back, type-only}
+use Rattle.types.proofs.Rows.{type-row}
+use Rattle.imports.specs.Read.{readImport, importMark}
+use Rattle.imports.specs.Table as importTable
+use Rattle.imports.specs.Write as importWrite
+use Rattle.imports.specs.Write.{measuredImport}
+use Rattle.imports.proofs.ReadLaws.{import-back, import-only}
+use Rattle.imports.proofs.Rows.{import-row}
+use Rattle.sections.specs.Section.{fresh, measuredFamily, familyBytes, writeFamily}
+use Rattle.sections.proofs.TurnLaws.{row-turns, accepted-size}
+use Rattle.claims.specs.Demand3.{flagsRow, flagsPool, flagsBytes, otherWords, Demand3, Readable, types, imports, reads, SameBy, Same, firstAbove, Marking, ReadBack, Returned}
+use Rattle.claims.specs.Valid.{Valid, production}
+use Rattle.claims.proofs.MarkLaws.{tableMarks, of-table, row-mark}
+
+-- ---- a valid row has a size, which is the length of its production
+
+valid-size : (family : ℕ) (row pool : List ℕ) → Valid family row pool → measuredFamily family row pool ≡ Size (length (familyBytes family pool row))
+valid-size family row pool v = accepted-size (row-turns (fresh family) (v .0) row pool) (v .1)
+
+-- its bytes are its production
+pub valid-bytes : (family : ℕ) → Readable family → (row pool : List ℕ) → Valid family row pool → familyBytes family pool row ≡ production family pool row
+unfolding measuredFamily familyBytes production
+valid-bytes family types row pool v = type-row row pool _ (valid-size 7 row pool v) .as-production
+valid-bytes family imports row pool v = import-row row pool _ (valid-size 10 row pool v) .as-production
+
+pub valid-measured : (family : ℕ) → Readable family → (row pool : List ℕ) → Valid family row pool
+    → measuredFamily family row pool ≡ Size (length (production family pool row))
+valid-measured family f row pool v = valid-size family row pool v ∙ ap (λ bs. Size (length bs)) (valid-bytes family f row pool v)
+
+-- ---- read back
+
+module _ (family : ℕ) (row pool input room : List ℕ) where
+  abbrev found : Found
+  found = pick (eqb family 7) (typeWrite.shapeOf (word row 0)) (importWrite.shapeOf (word row 0))
+
+  -- what is said of the kind's shape is said of the row
+  of-kind : (mk : Mark) (l : LeftRow) → ReadsBack found mk pool row input room (length (production family pool row)) l
+      → ReadBack mk family pool row input room l
+  of-kind (At j) l r = r .reads
+  of-kind Clear l r = (
+    r .reads .0,
+    λ h.
+        let t = r .reads .1 h in
+        record {
+          words = t .words;
+          leaves = t .leaves;
+          same = subst (λ f. SameBy f pool row input (t .words)) (sym (r .is)) (t .same);
+        },
+  )
+
+read-back : (family : ℕ) → Readable family → (row pool : List ℕ) → Words row → Valid family row pool
+    → (rest room : List ℕ) (g : ℕ) → 1 ≤ g → g ≤ 3 → length (production family pool row ++ rest) ≤ 2 ^ 30
+    → ReadBack (firstAbove family g pool row) family pool row (production family pool row ++ rest) room
+    (reads family g (production family pool row ++ rest) room)
+unfolding measuredFamily familyBytes
+read-back family types row pool fw v rest room g any top short =
+    of-kind 7 row pool _ room _ _
+    (type-back g row pool _ fw (valid-measured 7 types row pool v) rest _ room (ap (λ bs. bs ++ rest) (sym (valid-bytes 7 types row pool v))) any top short)
+read-back family imports row pool fw v rest room g any top short =
+    of-kind 10 row pool _ room _ _
+    (import-back g row pool _ fw (valid-measured 10 imports row pool v) rest _ room (ap (λ bs. bs ++ rest) (sym (valid-bytes 10 imports row pool v))) any top short)
+
+-- ---- nothing else is returned
+
+-- a refusal is no item
+refused : {w : Refusal} {n q e : ℕ} {row after : List ℕ} {A : Type 0} → leftRow (Refused w n) row ≡ leftRow (Item q e) after → A
+refused {w} {n} {q} {e} r =
+    let a : Refused w n ≡ Item q e = ap (λ l. l .answer) r in
+    let z : _≡_ {A = ℕ} 0 1 = cc in
+    absurd (omega arith)
+
+-- an item is returned only at a grade, and of an input within the limit
+abbrev Limits : ℕ → List ℕ → Type 0
+Limits g input = (1 ≤ g) × (g ≤ 3) × (length input ≤ 2 ^ 30)
+
+item-limits : (f : Found) (kind lead g : ℕ) (input room after : List ℕ) (q e : ℕ) → readItem f kind lead g input room ≡ leftRow (Item q e) after
+    → Limits g input
+unfolding readItem
+item-limits f kind lead g input room after q e r = go (ltb (2 ^ 30) (length input)) (ltb g 1) (ltb 3 g) refl refl refl r
+  where
+    go : (a b c : Bool) → ltb (2 ^ 30) (length input) ≡ a → ltb g 1 ≡ b → ltb 3 g ≡ c
+        → pick a (leftRow (Refused refusal.Limit 0) room)
+        (pick b (leftRow (Refused refusal.Limit 0) room)
+        (pick c (leftRow (Refused refusal.Limit 0) room)
+        (pick (eqb (length input) 0) (leftRow (Refused refusal.Cut 0) room) (readFound f kind lead g input room)))) ≡ leftRow (Item q e) after
+        → Limits g input
+    go true b c x y z r = refused r
+    go false true c x y z r = refused r
+    go false false true x y z r = refused r
+    go false false false x y z r = (ltb-false _ _ y, ltb-false _ _ z, ltb-false _ _ x)
+
+reads-limits : (family : ℕ) → Readable family → (g : ℕ) (input room after : List ℕ) (q e : ℕ)
+    → reads family g input room ≡ leftRow (Item q e) after → Limits g input
+unfolding readType readImport
+reads-limits family types g input room after q e r = item-limits _ _ _ g input room after q e r
+reads-limits family imports g input room after q e r = item-limits _ _ _ g input room after q e r
+
+module _ (family : ℕ) (row pool input room after : List ℕ) (q e : ℕ) where
+  -- the words that are returned are as many as the row's
+  same-long : (f : Found) (words : List ℕ) → SameBy f pool row input words → length words ≡ length row
+  same-long (Is s) words same = same .long
+  same-long Not words same = absurd same
+
+  abbrev Its : Type 0
+  Its = (q ≡ length row) × (e ≡ length (production family pool row)) × Same family pool row input (take q after)
+
+  returned : length row ≤ length room → Returned family pool row input room (leftRow (Item q e) after) → Its
+  returned h t =
+      let ws = t .words in
+      let item : Item q e ≡ Item (length row) (length (production family pool row)) = ap (λ l. l .answer) (t .leaves) in
+      let eq : q ≡ length row = cc in
+      let ee : e ≡ length (production family pool row) = cc in
+      let long = same-long (found family row pool input room) ws (t .same) in
+      let fits : 0 + length ws ≤ length room = omega (arith, long) in
+      let back : take q after ≡ ws = (λ i. take ((eq ∙ sym long) i) (t .leaves i .row)) ∙ sets-back ws room 0 fits in
+      (eq, ee, subst (λ l. Same family pool row input l) (sym back) (t .same))
+
+  -- of the outcomes of reading back only an item is one
+  only : (mk : Mark) → ReadBack mk family pool row input room (leftRow (Item q e) after) → Its
+  only (At j) r = refused (sym r)
+  only Clear r = go (ltb (length room) (length row)) refl
+    where
+      go : (b : Bool) → ltb (length room) (length row) ≡ b → Its
+      go true t = refused (sym (r .0 (ltb-true _ _ t)))
+      go false t = let h = ltb-false _ _ t in returned h (r .1 h)
+
+never-another : (family : ℕ) → Readable family → (row pool : List ℕ) → Words row → Valid family row pool
+    → (rest room after : List ℕ) (g words bytes : ℕ)
+    → reads family g (production family pool row ++ rest) room ≡ leftRow (Item words bytes) after
+    → (words ≡ length row) × (bytes ≡ length (production family pool row))
+    × Same family pool row (production family pool row ++ rest) (take words after)
+never-another family f row pool fw v rest room after g words bytes r =
+    let input = production family pool row ++ rest in
+    let l = reads-limits family f g input room after words bytes r in
+    only family row pool input room after words bytes (firstAbove family g pool row)
+    (subst (λ x. ReadBack (firstAbove family g pool row) family pool row input room x) r
+    (read-back family f row pool fw v rest room g (l .0) (l .1) (l .2)))
+
+-- ---- NEWER's place
+
+-- every byte by which a line of a table is marked is among the marking ones
+types-mark : tableMarks 7 leadGrade typeTable.table ≡ true
+unfolding leadGrade
+types-mark = refl
+
+imports-mark : tableMarks 10 (λ k. 1) importTable.table ≡ true
+imports-mark = refl
+
+newer-at : (family : ℕ) → Readable family → (row pool : List ℕ) → Words row → Valid family row pool
+    → (g j : ℕ) → 1 ≤ g → firstAbove family g pool row ≡ At j
+    → (j < length (production family pool row)) × Marking family g (byte (production family pool row) j)
+unfolding measuredFamily familyBytes measuredType measuredImport typeMark importMark
+newer-at family types row pool fw v g j any m =
+    rw (← valid-bytes 7 types row pool v)
+    (row-mark 7 (leadGrade (word row 0)) g any (typeWrite.shapeOf (word row 0)) row pool _ (valid-measured 7 types row pool v)
+    (of-table 7 leadGrade typeTable.table types-mark (word row 0)) j m)
+newer-at family imports row pool fw v g j any m =
+    rw (← valid-bytes 10 imports row pool v)
+    (row-mark 10 1 g any (importWrite.shapeOf (word row 0)) row pool _ (valid-measured 10 imports row pool v)
+    (of-table 10 (λ k. 1) importTable.table imports-mark (word row 0)) j m)
+
+-- ---- written again
+
+written-again : (family : ℕ) → Readable family → (input room after : List ℕ) (g words bytes : ℕ) → Bytes input
+    → reads family g input room ≡ leftRow (Item words bytes) after → bytes ≤ 65536 → (out : List ℕ) (at : ℕ)
+    → writeFamily family (take words after) (take bytes input) out at ≡ stored (Size bytes) (take bytes input) out at
+unfolding writeFamily
+written-again family types input room after g words bytes fi r small out at = type-only g input room after words bytes fi r small out at
+written-again family imports input room after g words bytes fi r small out at = import-only g input room after words bytes fi r small out at
+
+-- ---- names that only run together alike
+
+not-the-same : ((out : List ℕ) (at : ℕ) → writeFamily 7 flagsRow flagsPool out at ≡ stored (Size 6) flagsBytes out at)
+    × (Same 7 flagsPool flagsRow flagsBytes otherWords → ⊥)
+unfolding writeFamily writeType writeRow measuredRow measured sized rowBytes rowWidth widths walk outs seq repeated judge flaw named wide text rest step bytesOf name bytes view shapeIn SameFields said
+not-the-same = ((λ out at. refl), other)
+  where
+    other : Same 7 flagsPool flagsRow flagsBytes otherWords → ⊥
+    other same =
+        let names : Name 1 [] ∷ [] ≡ Name 1 (0x02 ∷ []) ∷ [] = same .says .1 .1 .1 .1 .1 .0 in
+        let z : _≡_ {A = ℕ} 0 1 = cc in
+        absurd (omega arith)
+
+pub demand-3 : Demand3
+demand-3 =
+    record {
+      read-back = read-back;
+      never-another = never-another;
+      newer-at = newer-at;
+      written-again = written-again;
+      not-the-same = not-the-same;
+    }

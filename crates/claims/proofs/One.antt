@@ -1,0 +1,106 @@
+-- No second outcome meets the contract of a public call: the clauses name one value, and an outcome is read off it.
+use Prim.Native.Nat.{ℕ}
+use native.Mathlib.Omega.{arith}
+use mathlib.Core.Path.{_≡_, refl, sym, _∙_, ap}
+use mathlib.Core.Logic.{∥∥₁-elim, ∥∥₁-map}
+use mathlib.Core.HLevel.{⊥-prop}
+use mathlib.Core.List.{List, [], _∷_}
+use base.Logic.{ent}
+use contract.Monad.{conj, conjL, conjR, fact, factI, fact-use}
+use denote.Ref.{RefT}
+use borrow.Fn.World.{World, w₀}
+use Rattle.numbers.specs.Bytes.{partOf}
+use Rattle.numbers.proofs.bytes.part as call-part
+use Rattle.claims.specs.One.{OneOutcome}
+use Rattle.claims.specs.OneCalls.{NoSecondOutcome}
+
+-- of two values that are the same third, what one determines the other does
+pub one : (w : World) {S R : Type 0} {b c v : S} (f : S → R)
+    → ent (w .𝓤) (conj (w .𝓤) (fact (w .𝓤) (b ≡ v)) (fact (w .𝓤) (c ≡ v))) (fact (w .𝓤) (f b ≡ f c))
+one w {b = b} {c} {v} f =
+    let both = conj (w .𝓤) (fact (w .𝓤) (b ≡ v)) (fact (w .𝓤) (c ≡ v)) in
+    fact-use (w .𝓤) (b ≡ v) (conjL (w .𝓤) (fact (w .𝓤) (b ≡ v)) (fact (w .𝓤) (c ≡ v))) (λ p.
+    fact-use (w .𝓤) (c ≡ v) (conjR (w .𝓤) (fact (w .𝓤) (b ≡ v)) (fact (w .𝓤) (c ≡ v))) (λ q.
+    factI (w .𝓤) (f b ≡ f c) both (ap f (p ∙ sym q))))
+
+-- the bytes 61 61 at the front of a block, and the first byte or the second as a part of one byte
+abbrev twice : RefT (List ℕ)
+twice = record { ptr = (0, 0); name = 0; now = 0x61 ∷ 0x61 ∷ [] }
+
+abbrev byteAt : ℕ → RefT (List ℕ)
+byteAt p = record { ptr = (0, p); name = 0; now = 0x61 ∷ [] }
+
+pub part-two : OneOutcome call-part.ended (λ M. call-part.clauses) → ⊥
+unfolding partOf
+part-two h =
+    ∥∥₁-elim
+    (h w₀ ([], tt) (twice, (0, (1, tt))) tt (byteAt 0, (tt, (tt, (tt, tt)))) (byteAt 1, (tt, (tt, (tt, tt)))) .apply (w₀ .𝓤 .one)
+    (∣ (refl, tt) ∣₁, ∣ (refl, tt) ∣₁))
+    ⊥-prop (λ t. let z : _≡_ {A = ℕ} 0 1 = ap (λ x. x .0 .ptr .1) (t .0) in omega arith)
+
+pub no-second-outcome : NoSecondOutcome
+no-second-outcome = record {
+  copy = λ w κs a g x y. one w (λ l. (l .answer, (tt, (tt, (l .buffer, tt)))));
+  unsigned-size = λ w κs a g x y. one w (λ l. (l, (tt, tt)));
+  signed-size = λ w κs a g x y. one w (λ l. (l, (tt, tt)));
+  put-unsigned = λ w κs a g x y. one w (λ l. (l .answer, (tt, (tt, (l .buffer, tt)))));
+  put-signed = λ w κs a g x y. one w (λ l. (l .answer, (tt, (tt, (l .buffer, tt)))));
+  take-unsigned = λ w κs a g x y. one w (λ l. (l, (tt, tt)));
+  take-signed = λ w κs a g x y. one w (λ l. (l, (tt, tt)));
+  is-text = λ w κs a g x y. one w (λ l. (l, (tt, tt)));
+  plain-field = λ w κs a g x y. one w (λ l. (l, (tt, tt)));
+  found-of = λ w κs a g x y. one w (λ l. (l, (tt, tt)));
+  plain-wide = λ w κs a g x y. one w (λ l. (l, (tt, tt)));
+  tail-wide = λ w κs a g x y. one w (λ l. (l, (tt, tt)));
+  unit-wide = λ w κs a g x y. one w (λ l. (l, (tt, tt)));
+  front-wide = λ w κs a g x y. one w (λ l. (l, (tt, tt)));
+  close-wide = λ w κs a g x y. one w (λ l. (l, (tt, tt)));
+  kind-of = λ w κs a g x y. one w (λ l. (l, (tt, tt)));
+  two-of = λ w κs a g x y. one w (λ l. (l, (tt, (tt, (tt, (tt, tt))))));
+  many-of = λ w κs a g x y. one w (λ l. (l, (tt, (tt, (tt, (tt, (tt, (tt, tt))))))));
+  measure-row = λ w κs a g x y. one w (λ l. (l, (tt, (tt, (tt, tt)))));
+  write-row = λ w κs a g x y. one w (λ l. (l .answer, (tt, (tt, (tt, (l .buffer, (tt, tt)))))));
+  measure-form = λ w κs a g x y. one w (λ l. (l, (tt, (tt, (tt, tt)))));
+  write-form = λ w κs a g x y. one w (λ l. (l .answer, (tt, (tt, (tt, (l .buffer, (tt, tt)))))));
+  write-import-form = λ w κs a g x y. one w (λ l. (l .answer, (tt, (tt, (l .buffer, (tt, tt))))));
+  read-form = λ w κs a g x y. one w (λ l. (l .answer, (tt, (tt, (tt, (tt, (tt, (l .row, tt))))))));
+  read-import-form = λ w κs a g x y. one w (λ l. (l .answer, (tt, (tt, (tt, (tt, (l .row, tt)))))));
+  number-of = λ w κs a g x y. one w (λ l. (l, (tt, tt)));
+  measure-shape = λ w κs a g x y. one w (λ l. (l, (tt, (tt, (tt, (tt, tt))))));
+  write-shape = λ w κs a g x y. one w (λ l. (l .answer, (tt, (tt, (tt, (tt, (l .buffer, (tt, tt))))))));
+  first-of = λ w κs a g x y. one w (λ l. (l, (tt, tt)));
+  read-item = λ w κs a g x y. one w (λ l. (l .answer, (tt, (tt, (tt, (tt, (tt, (l .row, tt))))))));
+  measure-type = λ w κs a g x y. one w (λ l. (l, (tt, (tt, tt))));
+  write-type = λ w κs a g x y. one w (λ l. (l .answer, (tt, (tt, (l .buffer, (tt, tt))))));
+  read-type = λ w κs a g x y. one w (λ l. (l .answer, (tt, (tt, (l .row, tt)))));
+  measure-import = λ w κs a g x y. one w (λ l. (l, (tt, (tt, tt))));
+  write-import = λ w κs a g x y. one w (λ l. (l .answer, (tt, (tt, (l .buffer, (tt, tt))))));
+  read-import = λ w κs a g x y. one w (λ l. (l .answer, (tt, (tt, (l .row, tt)))));
+  measure-canonical = λ w κs a g x y. one w (λ l. (l, (tt, (tt, tt))));
+  write-canonical = λ w κs a g x y. one w (λ l. (l .answer, (tt, (tt, (l .buffer, (tt, tt))))));
+  write-by = λ w κs a g x y. one w (λ l. (l .answer, (tt, (tt, (tt, (l .buffer, (tt, tt)))))));
+  new = λ w κs a g x y. one w (λ l. (l, (tt, tt)));
+  row = λ w κs a g x y. one w (λ l. (l .gave, (tt, (tt, (tt, (l .body, tt))))));
+  open-entry = λ w κs a g x y. one w (λ l. (l .gave, (tt, (l .body, tt))));
+  make-async = λ w κs a g x y. one w (λ l. (l .gave, (tt, (tt, (l .body, tt)))));
+  params = λ w κs a g x y. one w (λ l. (l .gave, (tt, (tt, (tt, (l .body, tt))))));
+  result = λ w κs a g x y. one w (λ l. (l .gave, (tt, (tt, (tt, (l .body, tt))))));
+  abandon = λ w κs a g x y. one w (λ l. (l .gave, (tt, (l .body, tt))));
+  finish = λ w κs a g x y. one w (λ l. (l .answer, (tt, (tt, (l .buffer, tt)))));
+  sheet = λ w κs a g x y. one w (λ l. (l .answer, (tt, (l .body, (l .out, tt)))));
+  tb-sheet = λ w κs a g x y. one w (λ l. (l .reply, (tt, (l .body, (l .out, tt)))));
+  tb-read-type = λ w κs a g x y. one w (λ l. (l .reply, (tt, (tt, (l .row, tt)))));
+  tb-read-import = λ w κs a g x y. one w (λ l. (l .reply, (tt, (tt, (l .row, tt)))));
+  tb-row = λ w κs a g x y. one w (λ l. (l .reply, (l .state, (tt, (tt, (l .body, tt))))));
+  tb-open = λ w κs a g x y. one w (λ l. (l .reply, (l .state, (l .body, tt))));
+  tb-async = λ w κs a g x y. one w (λ l. (l .reply, (l .state, (tt, (l .body, tt)))));
+  tb-params = λ w κs a g x y. one w (λ l. (l .reply, (l .state, (tt, (tt, (l .body, tt))))));
+  tb-result = λ w κs a g x y. one w (λ l. (l .reply, (l .state, (tt, (tt, (l .body, tt))))));
+  tb-abandon = λ w κs a g x y. one w (λ l. (l .reply, (l .state, (l .body, tt))));
+  tb-finish = λ w κs a g x y. one w (λ l. (l .reply, (tt, (tt, (l .out, tt)))));
+  part = λ w κs a g x y. one w (λ l. l);
+  part-is-an-exception = part-two;
+  plainly = λ T C h κs a g x y m p q. ∥∥₁-map (h w₀ κs a g x y .apply m (p, q)) (λ t. t .0);
+  write-type-tied = λ w. refl;
+  row-tied = λ w. refl;
+}

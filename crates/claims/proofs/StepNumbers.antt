@@ -1,0 +1,314 @@
+-- Why a row of each family, a step of a section, its finishing and a sheet are refused, by a predicate over refusals.
+use Prim.Native.Nat.{ℕ, _+_}
+use native.Mathlib.Omega.{arith}
+use mathlib.Core.Path.{_≡_, refl, sym, ap, _∙_}
+use mathlib.Core.Bool.{Bool, true, false}
+use mathlib.Core.List.{List, [], _∷_}
+use lib.Dec.{eqb, ltb, leb}
+use lib.ListN.{length, take}
+use Rattle.numbers.specs.Leb.{unsigned}
+use Rattle.fields.specs.declared.Answer.{Answer}
+use Rattle.fields.specs.declared.Answer.the-variants.{Size, Refused}
+use Rattle.fields.specs.declared.Field.{Field}
+use Rattle.fields.specs.declared.Field.the-variants as field
+use Rattle.fields.specs.declared.Found.the-variants.{Is, Not}
+use Rattle.fields.specs.declared.Leaf.{Leaf}
+use Rattle.fields.specs.declared.Leaf.the-variants.{Fine, Bad}
+use Rattle.fields.specs.declared.Refusal.{Refusal}
+use Rattle.fields.specs.declared.Refusal.the-variants as refusal
+use Rattle.fields.specs.declared.Shape.{Shape}
+use Rattle.fields.specs.declared.form.Form.{Form}
+use Rattle.fields.specs.declared.form.Form.the-variants as form
+use Rattle.fields.specs.declared.form.Tail.the-variants as tail
+use Rattle.fields.specs.declared.form.Unit.{Unit}
+use Rattle.fields.specs.declared.form.Unit.the-variants as unit
+use Rattle.fields.specs.Binary.{pick, word}
+use Rattle.fields.specs.Form.{unitOne, unitTwo, tailField, formShape, foundIn}
+use Rattle.fields.specs.Judge.{wide}
+use Rattle.fields.specs.Row.{measuredRow, rowBytes, writeRow}
+use Rattle.fields.specs.Shape.{plan, widths, rowWidth}
+use Rattle.fields.specs.Table.{shapeIn}
+use Rattle.fields.specs.Write.{Left, measured, written, stored, writeShape}
+use Rattle.fields.proofs.TableRows.{every, of-every}
+use Rattle.types.specs.Table as types
+use Rattle.types.specs.Write.{measuredType, writeType}
+use Rattle.imports.specs.Table as imports
+use Rattle.imports.specs.Write.{measuredImport, writeImport}
+use Rattle.canonicals.specs.Table as canonicals
+use Rattle.canonicals.specs.Table.{liftShape}
+use Rattle.canonicals.specs.Write.{canonicalBytes, measuredCanonical, writeCanonical}
+use Rattle.sections.specs.declared.Phase.{Phase}
+use Rattle.sections.specs.declared.Phase.the-variants.{Closed, Opened, Asynced, Parametered}
+use Rattle.sections.specs.declared.Section.{Section}
+use Rattle.sections.specs.Finish.{framed, framing, finishing}
+use Rattle.sections.specs.Section.{opened, sounds, measuredFamily, familyBytes, writeFamily}
+use Rattle.sections.specs.Steps.{Turn, wrote, taken, asyncIn, paramsIn, resultIn, abandonIn, rowing, opening, asyncing, paraming, resulting, abandoning}
+use Rattle.sections.proofs.FamilyLaws.{family-stored}
+use Rattle.sections.proofs.TurnLaws.{asyncShape, paramsShape, resultShape}
+use Rattle.sheets.specs.Frame as frame
+use Rattle.sheets.specs.Frame.{Rows, Are, Broken, poolOf}
+use Rattle.sheets.specs.Sheet as sheet
+use Rattle.sheets.specs.Sheet.{familyOf, tried, tries, joined, finished, ofRows, sheeted}
+use Rattle.claims.proofs.NumberLaws.{Ends, Tells, on-test, Allowed, Each, each-any, all-allowed, Measures, measured-why, never-big, worded, worded-group, namelessShape, nameless-plan, measured-row-why, stored-why, Basic, shape-why, table-why}
+
+-- ---- rows
+
+-- a form whose groups are counted has words in them
+form-words : (f : Form) (s : Shape) → foundIn f ≡ Is s → worded s ≡ true
+unfolding foundIn formShape unitOne unitTwo tailField widths wide
+form-words form.Primitive s e = let same : formShape form.Primitive ≡ s = cc in ap worded (sym same)
+form-words (form.Pair b p q) s e = let same : formShape (form.Pair b p q) ≡ s = cc in ap worded (sym same)
+form-words (form.List f u c) s e = let same : formShape (form.List f u c) ≡ s = cc in ap worded (sym same) ∙ group-words u
+  where
+    group-words : (u : Unit) → leb 1 (widths (unitOne u ∷ unitTwo u ∷ [])) ≡ true
+    group-words (unit.Named tail.Nothing) = refl
+    group-words (unit.Named tail.Value) = refl
+    group-words (unit.Named tail.Case) = refl
+    group-words unit.Values = refl
+form-words form.Import s e = let same : formShape form.Import ≡ s = cc in ap worded (sym same)
+form-words form.Not s e = let z : _≡_ {A = ℕ} 0 1 = cc in absurd (omega arith)
+
+-- what a row that has names can meet
+pub record Named (P : Refusal → Type 0) : Type 0 where
+  pub basic : Basic P
+  pub range : P refusal.Range
+  pub text : P refusal.Text
+
+module _ (P : Refusal → Type 0) where
+  any-plan : Named P → (s : Shape) → Each (Allowed P) (plan s)
+  any-plan h s = each-any (Allowed P) (all-allowed P (h .range) (h .text)) (plan s)
+
+  pub type-why : Named P → (row pool : List ℕ) → Tells P (measuredType row pool)
+  unfolding measuredType every widths wide
+  type-why h row pool = table-why P (h .basic) types.table refl (word row 0) (λ s e. any-plan h s) row pool
+
+  pub import-why : Named P → (row pool : List ℕ) → Tells P (measuredImport row pool)
+  unfolding measuredImport every widths wide
+  import-why h row pool = table-why P (h .basic) imports.table refl (word row 0) (λ s e. any-plan h s) row pool
+
+  -- the rows of a form, of which only Not is no kind
+  pub form-why : P refusal.Limit → P refusal.Row → P refusal.Tag → P refusal.Range → P refusal.Text → (f : Form) → (foundIn f ≡ Not → P refusal.Kind)
+      → (row pool : List ℕ) → Tells P (measuredRow (foundIn f) row pool)
+  form-why limit empty tag range text f kind row pool =
+      measured-row-why P (foundIn f) row pool
+      (record {
+        limit = limit;
+        kind = kind;
+        empty = empty;
+        shape = λ s e. record {
+          limit = limit;
+          width = λ w. empty;
+          tag = tag;
+          names = each-any (Allowed P) (all-allowed P range text) (plan s);
+          big = never-big s (worded-group s (form-words f s e));
+        };
+      })
+
+  -- no canonical has a name
+  pub canonical-why : Basic P → (row pool : List ℕ) → Tells P (measuredCanonical row pool)
+  unfolding measuredCanonical every widths wide
+  canonical-why h row pool = go (eqb (word row 0) 256)
+    where
+      go : (b : Bool) → Tells P (measuredRow (pick b (Is liftShape) (shapeIn canonicals.table (word row 0))) row pool)
+      go true =
+          measured-row-why P (Is liftShape) row pool
+          (record {
+            limit = h .limit;
+            kind = λ e. h .kind;
+            empty = h .empty;
+            shape = λ s e. let same : liftShape ≡ s = cc in rw (← same) (shape-why P h liftShape refl (nameless-plan P liftShape refl) row pool);
+          })
+      go false =
+          table-why P h canonicals.table refl (word row 0)
+          (λ s e. nameless-plan P s (of-every namelessShape canonicals.table refl (word row 0) s e)) row pool
+
+  pub family-why : Named P → (family : ℕ) (row pool : List ℕ) → Tells P (measuredFamily family row pool)
+  unfolding measuredFamily
+  family-why h family row pool =
+      on-test (Tells P) (eqb family 7) (type-why h row pool)
+      (on-test (Tells P) (eqb family 8) (canonical-why (h .basic) row pool) (import-why h row pool))
+
+  -- ---- writing them
+
+  module _ (room : P refusal.Room) where
+    pub write-type-why : Named P → (row pool out : List ℕ) (at : ℕ) → Tells P (writeType row pool out at .answer)
+    unfolding writeType writeRow measuredType
+    write-type-why h row pool out at =
+        stored-why P room (measuredType row pool) (rowBytes (shapeIn types.table (word row 0)) pool row) out at (type-why h row pool)
+
+    pub write-import-why : Named P → (row pool out : List ℕ) (at : ℕ) → Tells P (writeImport row pool out at .answer)
+    unfolding writeImport writeRow measuredImport
+    write-import-why h row pool out at =
+        stored-why P room (measuredImport row pool) (rowBytes (shapeIn imports.table (word row 0)) pool row) out at (import-why h row pool)
+
+    pub write-canonical-why : Basic P → (row pool out : List ℕ) (at : ℕ) → Tells P (writeCanonical row pool out at .answer)
+    unfolding writeCanonical
+    write-canonical-why h row pool out at =
+        stored-why P room (measuredCanonical row pool) (canonicalBytes pool row) out at (canonical-why h row pool)
+
+    pub write-family-why : Named P → (family : ℕ) (row pool out : List ℕ) (at : ℕ) → Tells P (writeFamily family row pool out at .answer)
+    write-family-why h family row pool out at =
+        rw family-stored (stored-why P room (measuredFamily family row pool) (familyBytes family pool row) out at (family-why h family row pool))
+
+-- ---- steps
+
+module _ (P : Refusal → Type 0) (limit : P refusal.Limit) (s : Section) (body : List ℕ) where
+  abbrev Turns : Turn → Type 0
+  Turns t = Tells P (t .gave .answer)
+
+  wrote-why : (count : ℕ) (phase : Phase) (l : Left) → Tells P (l .answer) → Turns (wrote s count phase l)
+  wrote-why count phase l h = go (l .answer) h
+    where
+      go : (a : Answer) → Tells P a → Tells P (taken s a count phase .answer)
+      go (Size n) k = tt
+      go (Refused w n) k = k
+
+  pub row-why : P refusal.Room → P refusal.Order → P refusal.Count → Named P → (row pool : List ℕ) → Turns (rowing s row pool body)
+  unfolding rowing
+  row-why room order count h row pool =
+      on-test Turns (sounds s (length body))
+      (on-test Turns (ltb 16384 (length row)) limit
+      (on-test Turns (ltb 65536 (length pool)) limit
+      (on-test Turns (opened (s .phase)) order
+      (on-test Turns (eqb (s .count) 4294967295) count
+      (wrote-why (s .count + 1) Closed (writeFamily (s .family) row pool body (s .used))
+      (write-family-why P room h (s .family) row pool body (s .used)))))))
+      limit
+
+  pub open-why : P refusal.Order → P refusal.Count → P refusal.Kind → Turns (opening s body)
+  unfolding opening
+  open-why order count kind =
+      on-test Turns (sounds s (length body))
+      (on-test Turns (opened (s .phase)) order (on-test Turns (eqb (s .count) 4294967295) count (on-test Turns (eqb (s .family) 7) tt kind)))
+      limit
+
+  pub abandon-why : P refusal.Order → Turns (abandoning s body)
+  unfolding abandoning
+  abandon-why order = on-test Turns (sounds s (length body)) (go (s .phase)) limit
+    where
+      go : (p : Phase) → Turns (abandonIn p s body)
+      go Closed = order
+      go (Opened start) = tt
+      go (Asynced start) = tt
+      go (Parametered start) = tt
+
+  -- the words of an entry's shape, in their turn
+  module _ (room : P refusal.Room) (order : P refusal.Order) (tag : P refusal.Tag) where
+    words-why : (count : ℕ) (phase : Phase) (shape : Shape) (words pool : List ℕ) → Measures P shape words 0 pool
+        → Turns (wrote s count phase (writeShape shape words 0 pool body (s .used)))
+    unfolding writeShape
+    words-why count phase shape words pool h =
+        wrote-why count phase (stored (measured shape words 0 pool) (written shape pool words 0) body (s .used))
+        (stored-why P room (measured shape words 0 pool) (written shape pool words 0) body (s .used) (measured-why P shape words 0 pool h))
+
+    pub async-why : (a : ℕ) → Turns (asyncing s a body)
+    unfolding asyncing rowWidth widths wide
+    async-why a = on-test Turns (sounds s (length body)) (go (s .phase)) limit
+      where
+        fields : Measures P asyncShape (a ∷ []) 0 []
+        fields =
+            record {
+              limit = limit;
+              width = λ e. let z : _≡_ {A = ℕ} 0 1 = cc in absurd (omega arith);
+              tag = tag;
+              names = nameless-plan P asyncShape refl;
+              big = never-big asyncShape (λ e. let z : _≡_ {A = ℕ} 0 1 = cc in absurd (omega arith));
+            }
+
+        go : (p : Phase) → Turns (asyncIn p s a body)
+        go Closed = order
+        go (Opened start) = words-why (s .count) (Asynced start) asyncShape (a ∷ []) [] fields
+        go (Asynced start) = order
+        go (Parametered start) = order
+
+    pub result-why : (t x : ℕ) → Turns (resulting s t x body)
+    unfolding resulting rowWidth widths wide
+    result-why t x = on-test Turns (sounds s (length body)) (go (s .phase)) limit
+      where
+        fields : Measures P resultShape (t ∷ x ∷ []) 0 []
+        fields =
+            record {
+              limit = limit;
+              width = λ e. let z : _≡_ {A = ℕ} 0 1 = cc in absurd (omega arith);
+              tag = tag;
+              names = nameless-plan P resultShape refl;
+              big = never-big resultShape (λ e. let z : _≡_ {A = ℕ} 0 1 = cc in absurd (omega arith));
+            }
+
+        go : (p : Phase) → Turns (resultIn p s t x body)
+        go Closed = order
+        go (Opened start) = order
+        go (Asynced start) = order
+        go (Parametered start) = words-why (s .count) Closed resultShape (t ∷ x ∷ []) [] fields
+
+    pub params-why : P refusal.Row → P refusal.Range → P refusal.Text → (words pool : List ℕ) → Turns (paraming s words pool body)
+    unfolding paraming widths wide
+    params-why row range text words pool =
+        on-test Turns (sounds s (length body))
+        (on-test Turns (ltb 16384 (length words)) limit (on-test Turns (ltb 65536 (length pool)) limit (go (s .phase)))) limit
+      where
+        fields : (lead : Field) → Measures P (paramsShape lead) words 0 pool
+        fields lead =
+            record {
+              limit = limit;
+              width = λ e. row;
+              tag = tag;
+              names = each-any (Allowed P) (all-allowed P range text) (plan (paramsShape lead));
+              big = never-big (paramsShape lead) (λ e. omega arith);
+            }
+
+        go : (p : Phase) → Turns (paramsIn p s words pool body)
+        go Closed = order
+        go (Opened start) = words-why (s .count) (Parametered start) (paramsShape (field.Fixed 0x40)) words pool (fields (field.Fixed 0x40))
+        go (Asynced start) = words-why (s .count) (Parametered start) (paramsShape field.Nothing) words pool (fields field.Nothing)
+        go (Parametered start) = order
+
+  pub finish-why : P refusal.Order → P refusal.TooBig → P refusal.Room → (out : List ℕ) → Tells P (finishing s body out .answer)
+  unfolding finishing framing
+  finish-why order big room out =
+      on-test Says (sounds s (length body))
+      (on-test Says (opened (s .phase)) order
+      (on-test Says (ltb 4294967295 (length (unsigned (s .count)) + length (take (s .used) body))) big
+      (stored-why P room (Size (length whole)) whole out 0 tt)))
+      limit
+    where
+      Says : Left → Type 0
+      Says l = Tells P (l .answer)
+
+      whole : List ℕ
+      whole = framed (s .family) (length (unsigned (s .count)) + length (take (s .used) body)) (s .count) (take (s .used) body)
+
+-- ---- sheets
+
+module _ (P : Refusal → Type 0) (room : P refusal.Room) (h : Named P) where
+  tries-why : (family : ℕ) (pool : List ℕ) (size : ℕ) (rows : List (List ℕ)) (r used : ℕ) → Ends P (tries family pool size rows r used)
+  unfolding tries
+  tries-why family pool size [] r used = tt
+  tries-why family pool size (row ∷ rows) r used =
+      go (measuredFamily family row pool) (family-why P h family row pool) (λ u. tries-why family pool size rows (r + 1) u)
+    where
+      more : ℕ → Leaf
+      more u = tries family pool size rows (r + 1) u
+
+      go : (a : Answer) → Tells P a → ((u : ℕ) → Ends P (more u)) → Ends P (tried a size used r more)
+      go (Size m) k rest = on-test (Ends P) (leb (used + m) size) (rest (used + m)) room
+      go (Refused w n) k rest = k
+
+  abbrev Sheets : sheet.Left → Type 0
+  Sheets l = Tells P (l .answer)
+
+  pub sheet-why : P refusal.Sheet → (input body out : List ℕ) → Sheets (sheeted input body out)
+  unfolding sheeted finished
+  sheet-why broken input body out = on-test Sheets (ltb 65536 (length input)) (h .basic .limit) (go (frame.framed input))
+    where
+      end : (l : Leaf) (family : ℕ) (bytes : List ℕ) → Ends P l → Sheets (sheet.written l family bytes body out)
+      end (Fine r used) family bytes k = on-test Sheets (leb (length (sheet.section family r bytes)) (length out)) tt room
+      end (Bad w r) family bytes k = k
+
+      go : (rs : Rows) → Sheets (ofRows rs (poolOf input) body out)
+      go Broken = broken
+      go (Are []) = broken
+      go (Are (row ∷ rows)) =
+          end (tries (familyOf (word row 0)) (poolOf input) (length body) (row ∷ rows) 0 0) (familyOf (word row 0))
+          (joined (familyOf (word row 0)) (poolOf input) (row ∷ rows))
+          (tries-why (familyOf (word row 0)) (poolOf input) (length body) (row ∷ rows) 0 0)

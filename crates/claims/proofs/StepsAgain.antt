@@ -1,0 +1,296 @@
+-- A step that was refused for room left all as it was, and is accepted over a body that has the room that it named.
+use Prim.Native.Nat.{ℕ, _+_, _≤_}
+use native.Mathlib.Omega.{arith}
+use mathlib.Core.Path.{_≡_, sym, ap, _∙_, subst}
+use mathlib.Core.Bool.{Bool, true, false}
+use mathlib.Core.List.{List, [], _∷_}
+use borrow.Author.Tests.{le-ltb, le-leb}
+use lib.Dec.{eqb, ltb, leb}
+use lib.ListN.{length, drop}
+use lib.Seq.{sets}
+use Rattle.numbers.specs.Text.{text}
+use Rattle.fields.specs.declared.Answer.{Answer}
+use Rattle.fields.specs.declared.Answer.the-variants.{Size, Refused}
+use Rattle.fields.specs.declared.Field.{Field}
+use Rattle.fields.specs.declared.Field.the-variants as field
+use Rattle.fields.specs.declared.Flaw.{Flaw}
+use Rattle.fields.specs.declared.Flaw.the-variants.{Right, Wrong}
+use Rattle.fields.specs.declared.Found.{Found}
+use Rattle.fields.specs.declared.Found.the-variants.{Is, Not}
+use Rattle.fields.specs.declared.Leaf.{Leaf}
+use Rattle.fields.specs.declared.Leaf.the-variants.{Fine, Bad}
+use Rattle.fields.specs.declared.Refusal.{Refusal}
+use Rattle.fields.specs.declared.Refusal.the-variants as refusal
+use Rattle.fields.specs.declared.Shape.{Shape}
+use Rattle.fields.specs.Binary.{pick, word, chars, indexed, bytes}
+use Rattle.fields.specs.Judge.{wide, then, below, unused, value, optionalValue, named, optionalIndex, choice, optionalName, reference, flaw, unless, judge}
+use Rattle.fields.specs.Row.{measuredFound, measuredRow}
+use Rattle.fields.specs.Run.{along}
+use Rattle.fields.specs.Shape.{rowWidth}
+use Rattle.fields.specs.Walk.{next}
+use Rattle.fields.specs.Write.{Left, left, judged, written, sized, measured, stored, writeShape}
+use Rattle.fields.specs.Write as write
+use Rattle.fields.proofs.PutLaws.{allFields, judged-along}
+use Rattle.types.specs.Write.{measuredType}
+use Rattle.imports.specs.Write.{measuredImport}
+use Rattle.canonicals.specs.Write.{measuredCanonical}
+use Rattle.sections.specs.declared.Phase.{Phase}
+use Rattle.sections.specs.declared.Phase.the-variants.{Closed, Opened, Asynced, Parametered}
+use Rattle.sections.specs.declared.Section.{Section}
+use Rattle.sections.specs.Runs.{Step, Row, Open, Async, Params, Result, Abandon, turn}
+use Rattle.sections.specs.Section.{familyBytes, measuredFamily, opened, holds, sounds, writeFamily}
+use Rattle.sections.specs.Steps.{Turn, turned, refused, refuse, taken, wrote, asyncIn, paramsIn, resultIn, abandonIn, rowing, opening, asyncing, paraming, resulting, abandoning}
+use Rattle.sections.proofs.FamilyLaws.{family-stored}
+use Rattle.sections.proofs.TurnLaws.{asyncShape, paramsShape, resultShape}
+
+-- ---- what is measured is never refused for room
+
+abbrev Other : Refusal → Type 0
+Other refusal.Room = ⊥
+Other refusal.Limit = Unit {0}
+Other refusal.Kind = Unit {0}
+Other refusal.Row = Unit {0}
+Other refusal.Tag = Unit {0}
+Other refusal.Range = Unit {0}
+Other refusal.Text = Unit {0}
+Other refusal.TooBig = Unit {0}
+Other refusal.Order = Unit {0}
+Other refusal.Count = Unit {0}
+Other refusal.Cut = Unit {0}
+Other refusal.Code = Unit {0}
+Other refusal.Number = Unit {0}
+Other refusal.Newer = Unit {0}
+Other refusal.Sheet = Unit {0}
+
+abbrev FlawOther : Flaw → Type 0
+FlawOther Right = Unit {0}
+FlawOther (Wrong w j) = Other w
+
+abbrev LeafOther : Leaf → Type 0
+LeafOther (Fine a m) = Unit {0}
+LeafOther (Bad w j) = Other w
+
+abbrev AnswerOther : Answer → Type 0
+AnswerOther (Size n) = Unit {0}
+AnswerOther (Refused w n) = Other w
+
+-- what holds both ways holds of a test
+both : {X : Type 0} (P : X → Type 0) (b : Bool) {x y : X} → P x → P y → P (pick b x y)
+both P true h k = h
+both P false h k = k
+
+then-other : (x y : Flaw) → FlawOther x → FlawOther y → FlawOther (then x y)
+then-other Right y h k = k
+then-other (Wrong w j) y h k = h
+
+module _ (ws : List ℕ) where
+  below-other : (n i : ℕ) → FlawOther (below n ws i)
+  below-other n i = both FlawOther (ltb (word ws i) n) tt tt
+
+  unused-other : (i : ℕ) → FlawOther (unused ws i)
+  unused-other i = both FlawOther (eqb (word ws i) 0) tt tt
+
+  value-other : (i : ℕ) → FlawOther (value ws i)
+  unfolding value
+  value-other i = both FlawOther (eqb (word ws i) 0) (below-other 14 (i + 1)) (both FlawOther (eqb (word ws i) 1) tt tt)
+
+  optional-other : (i : ℕ) → FlawOther (optionalValue ws i)
+  unfolding optionalValue
+  optional-other i = both FlawOther (eqb (word ws i) 2) (unused-other (i + 1)) (value-other i)
+
+  named-other : (pool : List ℕ) (i : ℕ) → FlawOther (named pool ws i)
+  unfolding named
+  named-other pool i =
+      both FlawOther (leb (word ws i + word ws (i + 1)) (length pool))
+      (both FlawOther (text (chars pool (word ws i) (word ws (i + 1)))) tt tt) tt
+
+  slot-other : (pool : List ℕ) (i : ℕ) → FlawOther (optionalName pool ws i)
+  unfolding optionalName
+  slot-other pool i =
+      both FlawOther (eqb (word ws i) 0) (then-other (unused ws (i + 1)) (unused ws (i + 2)) (unused-other (i + 1)) (unused-other (i + 2)))
+      (both FlawOther (eqb (word ws i) 1) (named-other pool (i + 1)) tt)
+
+  flaw-other : (pool : List ℕ) (f : Field) → FlawOther (flaw pool f ws)
+  unfolding flaw optionalIndex choice reference
+  flaw-other pool field.Nothing = tt
+  flaw-other pool (field.Fixed b) = tt
+  flaw-other pool field.Primitive = below-other 14 0
+  flaw-other pool field.Value = value-other 0
+  flaw-other pool field.Optional = optional-other 0
+  flaw-other pool field.OptionalThenZero = optional-other 0
+  flaw-other pool field.Result = optional-other 0
+  flaw-other pool field.Name = named-other pool 0
+  flaw-other pool field.Index = tt
+  flaw-other pool field.Async = below-other 2 0
+  flaw-other pool field.Flag = below-other 2 0
+  flaw-other pool field.Rep = below-other 2 0
+  flaw-other pool field.OptionalIndex = both FlawOther (eqb (word ws 0) 0) (unused-other 1) (both FlawOther (eqb (word ws 0) 1) tt tt)
+  flaw-other pool field.Choice = both FlawOther (ltb (word ws 0) 10) (both FlawOther (indexed (word ws 0)) tt (unused-other 1)) tt
+  flaw-other pool field.ExternName =
+      then-other (named pool ws 0) (then (optionalName pool ws 2) (then (optionalName pool ws 5) (optionalName pool ws 8))) (named-other pool 0)
+      (then-other (optionalName pool ws 2) (then (optionalName pool ws 5) (optionalName pool ws 8)) (slot-other pool 2)
+      (then-other (optionalName pool ws 5) (optionalName pool ws 8) (slot-other pool 5) (slot-other pool 8)))
+  flaw-other pool field.Reference =
+      both FlawOther (eqb (word ws 0) 2) (value-other 1)
+      (both FlawOther (eqb (word ws 0) 3)
+      (both FlawOther (eqb (word ws 1) 0) tt (both FlawOther (eqb (word ws 1) 1) (unused-other 2) tt))
+      (both FlawOther (ltb (word ws 0) 6) (unused-other 2) tt))
+
+along-other : (pool : List ℕ) (fs : List Field) (ws : List ℕ) (at made : ℕ) → LeafOther (along (judge pool) fs ws at made)
+unfolding along judge
+along-other pool [] ws at made = tt
+along-other pool (f ∷ fs) ws at made =
+    go (flaw pool f ws) (flaw-other ws pool f) (along-other pool fs (drop (wide f) ws) (at + wide f) (made + length (bytes pool f ws)))
+  where
+    go : (x : Flaw) → FlawOther x → LeafOther (along (judge pool) fs (drop (wide f) ws) (at + wide f) (made + length (bytes pool f ws)))
+        → LeafOther (next (unless x (Fine (wide f) (length (bytes pool f ws)))) (λ t m. along (judge pool) fs (drop t ws) (at + t) (made + m)) at)
+    go Right h ih = ih
+    go (Wrong w j) h ih = h
+
+measured-other : (shape : Shape) (row : List ℕ) (start : ℕ) (pool : List ℕ) → AnswerOther (measured shape row start pool)
+unfolding measured sized
+measured-other shape row start pool =
+    both AnswerOther (ltb 16384 (length row)) tt
+    (both AnswerOther (ltb 65536 (length pool)) tt
+    (both AnswerOther (eqb (rowWidth shape row start) (length row))
+    (go (judged shape pool row start)
+    (subst LeafOther (sym (judged-along shape pool row start)) (along-other pool (allFields shape row start) (drop start row) start 0)))
+    tt))
+  where
+    go : (l : Leaf) → LeafOther l → AnswerOther (sized l)
+    go (Fine a m) h = both AnswerOther (ltb 4294967295 m) tt tt
+    go (Bad w j) h = h
+
+row-other : (found : Found) (row pool : List ℕ) → AnswerOther (measuredRow found row pool)
+unfolding measuredRow
+row-other found row pool =
+    both AnswerOther (ltb 16384 (length row)) tt
+    (both AnswerOther (ltb 65536 (length pool)) tt (both AnswerOther (eqb (length row) 0) tt (go found)))
+  where
+    go : (f : Found) → AnswerOther (measuredFound f row pool)
+    go (Is shape) = measured-other shape row 1 pool
+    go Not = tt
+
+family-other : (family : ℕ) (row pool : List ℕ) → AnswerOther (measuredFamily family row pool)
+unfolding measuredFamily measuredType measuredCanonical measuredImport
+family-other family row pool =
+    both AnswerOther (eqb family 7) (row-other _ row pool) (both AnswerOther (eqb family 8) (row-other _ row pool) (row-other _ row pool))
+
+-- ---- a step as a function of the body
+
+record Again (s : Section) (body : List ℕ) (t : List ℕ → Turn) : Type 0 where
+  tries : (n : ℕ) → t body .gave .answer ≡ Refused refusal.Room n
+      → (t body ≡ turned (refused s refusal.Room n) body) × ((new : List ℕ) → s .used + n ≤ length new → t new .gave .answer ≡ Size n)
+
+module _ (s : Section) (body : List ℕ) where
+  refuse-again : (w : Refusal) → Other w → Again s body (refuse s w)
+  refuse-again w o = record { tries = λ n e. let z : w ≡ refusal.Room = cc in absurd (subst Other z o) }
+
+  -- a test that does not look at the body, and refuses; one that says whether the section can stand over it
+  unless-again : (b : Bool) (w : Refusal) {t : List ℕ → Turn} → Other w → Again s body t → Again s body (λ x. pick b (refuse s w x) (t x))
+  unless-again true w o k = refuse-again w o
+  unless-again false w o k = k
+
+  sound-again : {t : List ℕ → Turn} → Again s body t → Again s body (λ x. pick (sounds s (length x)) (t x) (refuse s refusal.Limit x))
+  unfolding sounds
+  sound-again {t} k = record { tries = λ n e. go n (ltb (length body) (s .used)) (holds (s .phase) s) e }
+    where
+      over : Bool → Bool → Turn → List ℕ → Turn
+      over b c x y = pick (pick b false c) x (refuse s refusal.Limit y)
+
+      go : (n : ℕ) (b c : Bool) → over b c (t body) body .gave .answer ≡ Refused refusal.Room n
+          → (over b c (t body) body ≡ turned (refused s refusal.Room n) body)
+          × ((new : List ℕ) → s .used + n ≤ length new → over (ltb (length new) (s .used)) c (t new) new .gave .answer ≡ Size n)
+      go n false true e =
+          let h = k .tries n e in
+          (h .0, λ new room. ap (λ b. over b true (t new) new .gave .answer) (le-ltb (length new) (s .used) (omega (arith, room))) ∙ h .1 new room)
+      go n false false e = let z : _≡_ {A = ℕ} 0 1 = cc in absurd (omega arith)
+      go n true c e = let z : _≡_ {A = ℕ} 0 1 = cc in absurd (omega arith)
+
+  -- what is stored behind the used part
+  stored-again : (r : Answer) (bs : List ℕ) (count : ℕ) (phase : Phase) → AnswerOther r
+      → Again s body (λ x. wrote s count phase (stored r bs x (s .used)))
+  unfolding stored
+  stored-again (Size m) bs count phase o = record { tries = λ n e. go n (leb (s .used + m) (length body)) e }
+    where
+      at : Bool → List ℕ → Turn
+      at b x = wrote s count phase (pick b (left (Size m) (sets x (s .used) bs)) (write.refuse refusal.Room m x))
+
+      go : (n : ℕ) (b : Bool) → at b body .gave .answer ≡ Refused refusal.Room n
+          → (at b body ≡ turned (refused s refusal.Room n) body)
+          × ((new : List ℕ) → s .used + n ≤ length new → at (leb (s .used + m) (length new)) new .gave .answer ≡ Size n)
+      go n true e = let z : _≡_ {A = ℕ} 0 1 = cc in absurd (omega arith)
+      go n false e =
+          let q : m ≡ n = cc in (
+            ap (λ k. turned (refused s refusal.Room k) body) q,
+            λ new room. ap (λ b. at b new .gave .answer) (le-leb (s .used + m) (length new) (omega (arith, room, q))) ∙ ap Size q,
+          )
+  stored-again (Refused w m) bs count phase o = record { tries = λ n e. let z : w ≡ refusal.Room = cc in absurd (subst Other z o) }
+
+  wrote-again : (r : Answer) (bs : List ℕ) (l : List ℕ → Left) (count : ℕ) (phase : Phase) → AnswerOther r
+      → ((x : List ℕ) → l x ≡ stored r bs x (s .used)) → Again s body (λ x. wrote s count phase (l x))
+  wrote-again r bs l count phase o e =
+      subst (Again s body) (λ i x. wrote s count phase (sym (e x) i)) (stored-again r bs count phase o)
+
+  shape-again : (shape : Shape) (words pool : List ℕ) (count : ℕ) (phase : Phase)
+      → Again s body (λ x. wrote s count phase (writeShape shape words 0 pool x (s .used)))
+  unfolding writeShape
+  shape-again shape words pool count phase =
+      stored-again (measured shape words 0 pool) (written shape pool words 0) count phase (measured-other shape words 0 pool)
+
+  -- ---- each step
+
+  async-again : (a : ℕ) (p : Phase) → Again s body (asyncIn p s a)
+  async-again a Closed = refuse-again refusal.Order tt
+  async-again a (Opened start) = shape-again asyncShape (a ∷ []) [] (s .count) (Asynced start)
+  async-again a (Asynced start) = refuse-again refusal.Order tt
+  async-again a (Parametered start) = refuse-again refusal.Order tt
+
+  params-again : (words pool : List ℕ) (p : Phase) → Again s body (paramsIn p s words pool)
+  params-again words pool Closed = refuse-again refusal.Order tt
+  params-again words pool (Opened start) = shape-again (paramsShape (field.Fixed 0x40)) words pool (s .count) (Parametered start)
+  params-again words pool (Asynced start) = shape-again (paramsShape field.Nothing) words pool (s .count) (Parametered start)
+  params-again words pool (Parametered start) = refuse-again refusal.Order tt
+
+  result-again : (tag x : ℕ) (p : Phase) → Again s body (resultIn p s tag x)
+  result-again tag x Closed = refuse-again refusal.Order tt
+  result-again tag x (Opened start) = refuse-again refusal.Order tt
+  result-again tag x (Asynced start) = refuse-again refusal.Order tt
+  result-again tag x (Parametered start) = shape-again resultShape (tag ∷ x ∷ []) [] (s .count) Closed
+
+  abandon-again : (p : Phase) → Again s body (abandonIn p s)
+  abandon-again Closed = refuse-again refusal.Order tt
+  abandon-again (Opened start) = record { tries = λ n e. let z : _≡_ {A = ℕ} 0 1 = cc in absurd (omega arith) }
+  abandon-again (Asynced start) = record { tries = λ n e. let z : _≡_ {A = ℕ} 0 1 = cc in absurd (omega arith) }
+  abandon-again (Parametered start) = record { tries = λ n e. let z : _≡_ {A = ℕ} 0 1 = cc in absurd (omega arith) }
+
+  types-again : (b : Bool) → Again s body (λ x. pick b (turned (taken s (Size 0) (s .count + 1) (Opened (s .used))) x) (refuse s refusal.Kind x))
+  types-again true = record { tries = λ n e. let z : _≡_ {A = ℕ} 0 1 = cc in absurd (omega arith) }
+  types-again false = refuse-again refusal.Kind tt
+
+  turn-again : (k : Step) → Again s body (turn k s)
+  unfolding rowing opening asyncing paraming resulting abandoning
+  turn-again (Row row pool) =
+      sound-again
+      (unless-again (ltb 16384 (length row)) refusal.Limit tt
+      (unless-again (ltb 65536 (length pool)) refusal.Limit tt
+      (unless-again (opened (s .phase)) refusal.Order tt
+      (unless-again (eqb (s .count) 4294967295) refusal.Count tt
+      (wrote-again (measuredFamily (s .family) row pool) (familyBytes (s .family) pool row) (λ x. writeFamily (s .family) row pool x (s .used))
+      (s .count + 1) Closed (family-other (s .family) row pool) (λ x. family-stored (s .family) row pool x (s .used)))))))
+  turn-again Open =
+      sound-again
+      (unless-again (opened (s .phase)) refusal.Order tt
+      (unless-again (eqb (s .count) 4294967295) refusal.Count tt (types-again (eqb (s .family) 7))))
+  turn-again (Async a) = sound-again (async-again a (s .phase))
+  turn-again (Params words pool) =
+      sound-again
+      (unless-again (ltb 16384 (length words)) refusal.Limit tt
+      (unless-again (ltb 65536 (length pool)) refusal.Limit tt (params-again words pool (s .phase))))
+  turn-again (Result tag x) = sound-again (result-again tag x (s .phase))
+  turn-again Abandon = sound-again (abandon-again (s .phase))
+
+pub tried-again : (k : Step) (s : Section) (body : List ℕ) (n : ℕ) → turn k s body .gave .answer ≡ Refused refusal.Room n
+    → (turn k s body ≡ turned (refused s refusal.Room n) body)
+    × ((new : List ℕ) → s .used + n ≤ length new → turn k s new .gave .answer ≡ Size n)
+tried-again k s body n e = turn-again s body k .tries n e

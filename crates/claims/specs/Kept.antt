@@ -1,0 +1,151 @@
+-- Demand 1, (b) and (c): a refusal changes nothing that is lent; what is accepted changes only the bytes or words that it counts, and
+-- the state as document 01 tells.
+use Prim.Native.Nat.{ℕ, _+_, _-_, _≤_, _<_}
+use mathlib.Core.Path.{_≡_}
+use mathlib.Core.Logic.{_⊎_}
+use mathlib.Core.List.{List, [], _∷_}
+use lib.ListN.{length, getD}
+use Rattle.numbers.specs.Bytes as bytes
+use Rattle.numbers.specs.Bytes.{store}
+use Rattle.numbers.specs.Leb.{unsigned, signed}
+use Rattle.numbers.specs.Numbers as numbers
+use Rattle.fields.specs.declared.Found.{Found}
+use Rattle.fields.specs.declared.Read.{Read}
+use Rattle.fields.specs.declared.Read.the-variants as read
+use Rattle.fields.specs.declared.Shape.{Shape}
+use Rattle.fields.specs.declared.form.Form.{Form}
+use Rattle.fields.specs.declared.form.Form.the-variants as form
+use Rattle.fields.specs.Form.{foundIn}
+use Rattle.fields.specs.Read.{LeftRow, readItem}
+use Rattle.fields.specs.Row.{writeRow}
+use Rattle.fields.specs.Write.{numberOfRefusal, numberOf, valueOf, Left, writeShape}
+use Rattle.types.specs.Read.{readType}
+use Rattle.types.specs.Write.{writeType}
+use Rattle.imports.specs.Read.{readImport}
+use Rattle.imports.specs.Write.{writeImport}
+use Rattle.canonicals.specs.Write.{writeCanonical}
+use Rattle.sections.specs.declared.Phase.{Phase}
+use Rattle.sections.specs.declared.Phase.the-variants.{Closed, Opened, Asynced, Parametered}
+use Rattle.sections.specs.declared.Section.{Section}
+use Rattle.sections.specs.Finish.{finishing}
+use Rattle.sections.specs.Runs.{Step, Row, Open, Async, Params, Result, Abandon, turn}
+use Rattle.sections.specs.Section.{writeFamily}
+use Rattle.sections.specs.Steps.{Turn}
+use Rattle.sheets.specs.Sheet as sheet
+use Rattle.sheets.specs.Sheet.{sheeted}
+use Rattle.cabi.specs.declared.Given.{Given}
+use Rattle.cabi.specs.declared.Given.the-variants.{Is}
+use Rattle.cabi.specs.Read as c
+use Rattle.cabi.specs.Read.{ofRead}
+use Rattle.cabi.specs.Sheet.{Written, ofSheet}
+use Rattle.cabi.specs.State.{given, startNumber, numbersOf, Stepped, step, Finished, finishes}
+use Rattle.claims.specs.Valid.{productions, entries, familyIn}
+
+-- outside `size` elements from `at` on, `new` is as `old` was
+pub record Outside (at size : ℕ) (old new : List ℕ) : Type 0 where
+  pub long : length new ≡ length old
+  pub same : (i : ℕ) → (i < at) ⊎ (at + size ≤ i) → getD new i 0 ≡ getD old i 0
+
+-- a lent buffer, by the call's number: as it was where that is not 0, and else changed in `size` elements from `at` on alone
+pub record Kept (number at size : ℕ) (old new : List ℕ) : Type 0 where
+  pub refused : (number ≡ 0 → ⊥) → new ≡ old
+  pub accepted : number ≡ 0 → Outside at size old new
+
+-- what a storing, a writing and a reading call leave
+abbrev pub Stores : ℕ → List ℕ → bytes.Left → Type 0
+Stores at out l = Kept (numbers.numberOf (l .answer)) at (numbers.valueOf (l .answer)) out (l .buffer)
+
+abbrev pub Writes : ℕ → List ℕ → Left → Type 0
+Writes at out l = Kept (numberOf (l .answer)) at (valueOf (l .answer)) out (l .buffer)
+
+abbrev pub numberOfRead : Read → ℕ
+numberOfRead (read.Item words bytes) = 0
+numberOfRead (read.Refused w n) = numberOfRefusal w
+
+abbrev pub wordsOfRead : Read → ℕ
+wordsOfRead (read.Item words bytes) = words
+wordsOfRead (read.Refused w n) = 0
+
+abbrev pub Reads : List ℕ → LeftRow → Type 0
+Reads row l = Kept (numberOfRead (l .answer)) 0 (wordsOfRead (l .answer)) row (l .row)
+
+-- ---- the state
+
+abbrev grown : Section → ℕ → ℕ → Phase → Section
+grown s n count phase = record { family = s .family; used = s .used + n; count = count; phase = phase }
+
+-- the state behind a step that added n bytes: "a row adds its bytes and 1", "opening adds 1 to the count", "result closes the entry",
+-- "abandoning restores used and count from before the opening"
+abbrev pub told : Step → Section → ℕ → Section
+told (Row row pool) s n = grown s n (s .count + 1) Closed
+told Open s n = grown s n (s .count + 1) (Opened (s .used))
+told (Async a) s n = grown s n (s .count) (Asynced (startNumber (s .phase)))
+told (Params words pool) s n = grown s n (s .count) (Parametered (startNumber (s .phase)))
+told (Result tag x) s n = grown s n (s .count) Closed
+told Abandon s n = record { family = s .family; used = startNumber (s .phase); count = s .count - 1; phase = Closed }
+
+-- what a step leaves of the state
+pub record Turns (k : Step) (s : Section) (t : Turn) : Type 0 where
+  pub refused : (numberOf (t .gave .answer) ≡ 0 → ⊥) → t .gave .section ≡ s
+  pub accepted : numberOf (t .gave .answer) ≡ 0 → t .gave .section ≡ told k s (valueOf (t .gave .answer))
+
+-- the same of five numbers: a state that a step takes has only one form
+pub record Counts (k : Step) (state : List ℕ) (t : Stepped) : Type 0 where
+  pub refused : (t .reply .number ≡ 0 → ⊥) → t .state ≡ state
+  pub accepted : t .reply .number ≡ 0 → (s : Section) × (given state ≡ Is s) × (t .state ≡ numbersOf (told k s (t .reply .value)))
+
+-- ---- a sheet: the rows' bytes stand at the front of the body, and the section at the front of the output
+
+abbrev pub rowBytes : List ℕ → List ℕ
+rowBytes input = productions (familyIn (entries input)) (entries input)
+
+-- ---- every call that is lent something to write
+
+pub record ChangesNothingElse : Type 0 where
+  -- numbers
+  pub copy : (src : List ℕ) (at : ℕ) (out : List ℕ) → Stores at out (store src at out)
+  pub put-unsigned : (n at : ℕ) (out : List ℕ) → Stores at out (store (unsigned n) at out)
+  pub put-signed : (n at : ℕ) (out : List ℕ) → Stores at out (store (signed n) at out)
+  -- fields
+  pub write-shape : (s : Shape) (row : List ℕ) (start : ℕ) (pool out : List ℕ) (at : ℕ) → Writes at out (writeShape s row start pool out at)
+  pub write-row : (found : Found) (row pool out : List ℕ) (at : ℕ) → Writes at out (writeRow found row pool out at)
+  pub write-form : (f : Form) (row pool out : List ℕ) (at : ℕ) → Writes at out (writeRow (foundIn f) row pool out at)
+  pub write-import-form : (row pool out : List ℕ) (at : ℕ) → Writes at out (writeRow (foundIn form.Import) row pool out at)
+  pub read-item : (found : Found) (kind lead g : ℕ) (input row : List ℕ) → Reads row (readItem found kind lead g input row)
+  pub read-form : (f : Form) (kind lead g : ℕ) (input row : List ℕ) → Reads row (readItem (foundIn f) kind lead g input row)
+  pub read-import-form : (kind lead g : ℕ) (input row : List ℕ) → Reads row (readItem (foundIn form.Import) kind lead g input row)
+  -- types, imports, canonicals
+  pub write-type : (row pool out : List ℕ) (at : ℕ) → Writes at out (writeType row pool out at)
+  pub write-import : (row pool out : List ℕ) (at : ℕ) → Writes at out (writeImport row pool out at)
+  pub write-canonical : (row pool out : List ℕ) (at : ℕ) → Writes at out (writeCanonical row pool out at)
+  pub read-type : (g : ℕ) (input row : List ℕ) → Reads row (readType g input row)
+  pub read-import : (g : ℕ) (input row : List ℕ) → Reads row (readImport g input row)
+  -- sections: row, open, make_async, params, result, abandon, and finish, which leaves the state to its owner
+  pub write-by : (family : ℕ) (row pool body : List ℕ) (at : ℕ) → Writes at body (writeFamily family row pool body at)
+  pub step-state : (k : Step) (s : Section) (body : List ℕ) → Turns k s (turn k s body)
+  pub step-body : (k : Step) (s : Section) (body : List ℕ)
+      → Kept (numberOf (turn k s body .gave .answer)) (s .used) (valueOf (turn k s body .gave .answer)) body (turn k s body .body)
+  pub finish : (s : Section) (body out : List ℕ) → Writes 0 out (finishing s body out)
+  -- sheets
+  pub sheet-body : (input body out : List ℕ)
+      → Kept (numberOf (sheeted input body out .answer)) 0 (length (rowBytes input)) body (sheeted input body out .body)
+  pub sheet-out : (input body out : List ℕ)
+      → Kept (numberOf (sheeted input body out .answer)) 0 (valueOf (sheeted input body out .answer)) out (sheeted input body out .out)
+  -- cabi: tb_row, tb_open, tb_async, tb_params, tb_result, tb_abandon; tb_finish, tb_sheet, tb_read_type, tb_read_import
+  pub c-step-state : (k : Step) (state body : List ℕ) → length state ≡ 5 → Counts k state (step (given state) (λ s. turn k s body) state body)
+  pub c-step-body : (k : Step) (state body : List ℕ)
+      → Kept (step (given state) (λ s. turn k s body) state body .reply .number) (getD state 1 0)
+      (step (given state) (λ s. turn k s body) state body .reply .value) body (step (given state) (λ s. turn k s body) state body .body)
+  pub c-finish : (state body out : List ℕ)
+      → Kept (finishes (given state) body out .reply .number) 0 (finishes (given state) body out .reply .value) out
+      (finishes (given state) body out .out)
+  pub c-sheet-body : (input body out : List ℕ)
+      → Kept (ofSheet (sheeted input body out) .reply .number) 0 (length (rowBytes input)) body (ofSheet (sheeted input body out) .body)
+  pub c-sheet-out : (input body out : List ℕ)
+      → Kept (ofSheet (sheeted input body out) .reply .number) 0 (ofSheet (sheeted input body out) .reply .value) out
+      (ofSheet (sheeted input body out) .out)
+  pub c-read-type : (g : ℕ) (input row : List ℕ)
+      → Kept (ofRead (readType g input row) .reply .number) 0 (ofRead (readType g input row) .reply .words) row (ofRead (readType g input row) .row)
+  pub c-read-import : (g : ℕ) (input row : List ℕ)
+      → Kept (ofRead (readImport g input row) .reply .number) 0 (ofRead (readImport g input row) .reply .words) row
+      (ofRead (readImport g input row) .row)

@@ -1,0 +1,150 @@
+-- Demand 1, (a): no second outcome meets the contract of a public call, a line for each call of each library and of the C interface.
+use mathlib.Core.Path.{_≡_}
+use contract.Lifetimes.{Lfts}
+use denote.Ref.{now}
+use denote.Triple.Clauses.{Ended, closing}
+use denote.Triple.Entry.{Args}
+use borrow.Fn.World.{World, w₀}
+use Rattle.numbers.proofs.bytes.copy as call-copy
+use Rattle.numbers.proofs.leb.unsigned_size as call-unsigned-size
+use Rattle.numbers.proofs.leb.signed_size as call-signed-size
+use Rattle.numbers.proofs.leb.put_unsigned as call-put-unsigned
+use Rattle.numbers.proofs.leb.put_signed as call-put-signed
+use Rattle.numbers.proofs.leb.take_unsigned as call-take-unsigned
+use Rattle.numbers.proofs.leb.take_signed as call-take-signed
+use Rattle.numbers.proofs.text.is_text as call-is-text
+use Rattle.fields.proofs.form.plain_field as call-plain-field
+use Rattle.fields.proofs.form.found_of as call-found-of
+use Rattle.fields.proofs.form.plain_wide as call-plain-wide
+use Rattle.fields.proofs.form.tail_wide as call-tail-wide
+use Rattle.fields.proofs.form.unit_wide as call-unit-wide
+use Rattle.fields.proofs.form.front_wide as call-front-wide
+use Rattle.fields.proofs.form.close_wide as call-close-wide
+use Rattle.fields.proofs.row.kind_of as call-kind-of
+use Rattle.fields.proofs.row.two_of as call-two-of
+use Rattle.fields.proofs.row.many_of as call-many-of
+use Rattle.fields.proofs.row.measure_row as call-measure-row
+use Rattle.fields.proofs.row.write_row as call-write-row
+use Rattle.fields.proofs.straight.measure_form as call-measure-form
+use Rattle.fields.proofs.straight.write_form as call-write-form
+use Rattle.fields.proofs.straight.write_import as call-write-import-form
+use Rattle.fields.proofs.straight.read_form as call-read-form
+use Rattle.fields.proofs.straight.read_import as call-read-import-form
+use Rattle.fields.proofs.wall.number_of as call-number-of
+use Rattle.fields.proofs.write.measure_shape as call-measure-shape
+use Rattle.fields.proofs.write.write_shape as call-write-shape
+use Rattle.fields.proofs.first_of as call-first-of
+use Rattle.fields.proofs.read_item as call-read-item
+use Rattle.types.proofs.measure as call-measure-type
+use Rattle.types.proofs.write as call-write-type
+use Rattle.types.proofs.read as call-read-type
+use Rattle.imports.proofs.measure as call-measure-import
+use Rattle.imports.proofs.write as call-write-import
+use Rattle.imports.proofs.read as call-read-import
+use Rattle.canonicals.proofs.measure as call-measure-canonical
+use Rattle.canonicals.proofs.write as call-write-canonical
+use Rattle.sections.proofs.write_by as call-write-by
+use Rattle.sections.proofs.Section.new as call-new
+use Rattle.sections.proofs.Section.row as call-row
+use Rattle.sections.proofs.Section.open as call-open-entry
+use Rattle.sections.proofs.Section.make_async as call-make-async
+use Rattle.sections.proofs.Section.params as call-params
+use Rattle.sections.proofs.Section.result as call-result
+use Rattle.sections.proofs.Section.abandon as call-abandon
+use Rattle.sections.proofs.Section.finish as call-finish
+use Rattle.sheets.proofs.sheet as call-sheet
+use Rattle.cabi.proofs.tb_sheet as call-tb-sheet
+use Rattle.cabi.proofs.tb_read_type as call-tb-read-type
+use Rattle.cabi.proofs.tb_read_import as call-tb-read-import
+use Rattle.cabi.proofs.tb_row as call-tb-row
+use Rattle.cabi.proofs.tb_open as call-tb-open
+use Rattle.cabi.proofs.tb_async as call-tb-async
+use Rattle.cabi.proofs.tb_params as call-tb-params
+use Rattle.cabi.proofs.tb_result as call-tb-result
+use Rattle.cabi.proofs.tb_abandon as call-tb-abandon
+use Rattle.cabi.proofs.tb_finish as call-tb-finish
+use Rattle.numbers.proofs.bytes.part as call-part
+use Rattle.claims.specs.One.{Contract, Outcome, Ghost, says, OneOutcome, OneSeen}
+
+pub record NoSecondOutcome : Type 2 where
+  -- numbers
+  pub copy : OneOutcome call-copy.ended (λ M. call-copy.clauses)
+  pub unsigned-size : OneOutcome call-unsigned-size.ended (λ M. call-unsigned-size.clauses)
+  pub signed-size : OneOutcome call-signed-size.ended (λ M. call-signed-size.clauses)
+  pub put-unsigned : OneOutcome call-put-unsigned.ended (λ M. call-put-unsigned.clauses)
+  pub put-signed : OneOutcome call-put-signed.ended (λ M. call-put-signed.clauses)
+  pub take-unsigned : OneOutcome call-take-unsigned.ended (λ M. call-take-unsigned.clauses)
+  pub take-signed : OneOutcome call-take-signed.ended (λ M. call-take-signed.clauses)
+  pub is-text : OneOutcome call-is-text.ended (λ M. call-is-text.clauses)
+  -- fields
+  pub plain-field : OneOutcome call-plain-field.ended (λ M. call-plain-field.clauses)
+  pub found-of : OneOutcome call-found-of.ended (λ M. call-found-of.clauses)
+  pub plain-wide : OneOutcome call-plain-wide.ended (λ M. call-plain-wide.clauses)
+  pub tail-wide : OneOutcome call-tail-wide.ended (λ M. call-tail-wide.clauses)
+  pub unit-wide : OneOutcome call-unit-wide.ended (λ M. call-unit-wide.clauses)
+  pub front-wide : OneOutcome call-front-wide.ended (λ M. call-front-wide.clauses)
+  pub close-wide : OneOutcome call-close-wide.ended (λ M. call-close-wide.clauses)
+  pub kind-of : OneOutcome call-kind-of.ended (λ M. call-kind-of.clauses)
+  pub two-of : OneOutcome call-two-of.ended (λ M. call-two-of.clauses)
+  pub many-of : OneOutcome call-many-of.ended (λ M. call-many-of.clauses)
+  pub measure-row : OneOutcome call-measure-row.ended (λ M. call-measure-row.clauses)
+  pub write-row : OneOutcome call-write-row.ended (λ M. call-write-row.clauses)
+  pub measure-form : OneOutcome call-measure-form.ended (λ M. call-measure-form.clauses)
+  pub write-form : OneOutcome call-write-form.ended (λ M. call-write-form.clauses)
+  pub write-import-form : OneOutcome call-write-import-form.ended (λ M. call-write-import-form.clauses)
+  pub read-form : OneOutcome call-read-form.ended (λ M. call-read-form.clauses)
+  pub read-import-form : OneOutcome call-read-import-form.ended (λ M. call-read-import-form.clauses)
+  pub number-of : OneOutcome call-number-of.ended (λ M. call-number-of.clauses)
+  pub measure-shape : OneOutcome call-measure-shape.ended (λ M. call-measure-shape.clauses)
+  pub write-shape : OneOutcome call-write-shape.ended (λ M. call-write-shape.clauses)
+  pub first-of : OneOutcome call-first-of.ended (λ M. call-first-of.clauses)
+  pub read-item : OneOutcome call-read-item.ended (λ M. call-read-item.clauses)
+  -- types
+  pub measure-type : OneOutcome call-measure-type.ended (λ M. call-measure-type.clauses)
+  pub write-type : OneOutcome call-write-type.ended (λ M. call-write-type.clauses)
+  pub read-type : OneOutcome call-read-type.ended (λ M. call-read-type.clauses)
+  -- imports
+  pub measure-import : OneOutcome call-measure-import.ended (λ M. call-measure-import.clauses)
+  pub write-import : OneOutcome call-write-import.ended (λ M. call-write-import.clauses)
+  pub read-import : OneOutcome call-read-import.ended (λ M. call-read-import.clauses)
+  -- canonicals
+  pub measure-canonical : OneOutcome call-measure-canonical.ended (λ M. call-measure-canonical.clauses)
+  pub write-canonical : OneOutcome call-write-canonical.ended (λ M. call-write-canonical.clauses)
+  -- sections
+  pub write-by : OneOutcome call-write-by.ended (λ M. call-write-by.clauses)
+  pub new : OneOutcome call-new.ended (λ M. call-new.clauses)
+  pub row : OneOutcome call-row.ended (λ M. call-row.clauses)
+  pub open-entry : OneOutcome call-open-entry.ended (λ M. call-open-entry.clauses)
+  pub make-async : OneOutcome call-make-async.ended (λ M. call-make-async.clauses)
+  pub params : OneOutcome call-params.ended (λ M. call-params.clauses)
+  pub result : OneOutcome call-result.ended (λ M. call-result.clauses)
+  pub abandon : OneOutcome call-abandon.ended (λ M. call-abandon.clauses)
+  pub finish : OneOutcome call-finish.ended (λ M. call-finish.clauses)
+  -- sheets
+  pub sheet : OneOutcome call-sheet.ended (λ M. call-sheet.clauses)
+  -- cabi
+  pub tb-sheet : OneOutcome call-tb-sheet.ended (λ M. call-tb-sheet.clauses)
+  pub tb-read-type : OneOutcome call-tb-read-type.ended (λ M. call-tb-read-type.clauses)
+  pub tb-read-import : OneOutcome call-tb-read-import.ended (λ M. call-tb-read-import.clauses)
+  pub tb-row : OneOutcome call-tb-row.ended (λ M. call-tb-row.clauses)
+  pub tb-open : OneOutcome call-tb-open.ended (λ M. call-tb-open.clauses)
+  pub tb-async : OneOutcome call-tb-async.ended (λ M. call-tb-async.clauses)
+  pub tb-params : OneOutcome call-tb-params.ended (λ M. call-tb-params.clauses)
+  pub tb-result : OneOutcome call-tb-result.ended (λ M. call-tb-result.clauses)
+  pub tb-abandon : OneOutcome call-tb-abandon.ended (λ M. call-tb-abandon.clauses)
+  pub tb-finish : OneOutcome call-tb-finish.ended (λ M. call-tb-finish.clauses)
+  -- the exception: of a part the bytes are told, and not where it stands (input 61 61, start 0, size 1: either byte's place)
+  pub part : OneSeen call-part.ended (λ M. call-part.clauses) (λ κs a x. now (x .0))
+  -- it is an exception indeed: as they stand, its clauses leave the place open
+  pub part-is-an-exception : OneOutcome call-part.ended (λ M. call-part.clauses) → ⊥
+  -- outside the logic: at the closed model two outcomes of which the clauses hold are equal
+  pub plainly : (T : Ended) (C : Contract T) → OneOutcome T C
+      → (κs : Lfts (T .signature .lifetimes)) (a : Args (T .signature) κs) (g : Ghost T C w₀ κs a) (x y : Outcome T κs a) (m : w₀ .M)
+      → says T C w₀ κs a g x .holds m → says T C w₀ κs a g y .holds m → ∥ x ≡ y ∥₁
+  -- the clauses are those that the call's theorem is about, of a writer and of a step
+  pub write-type-tied : (w : World)
+      → closing (w .𝓤) (w .H) (w .𝓖 .A) call-write-type.ended (call-write-type.clauses (w .𝓤) (w .H) (w .𝓖 .A) (w .𝓜 .mem) (w .𝓡 .run))
+      ≡ call-write-type.spec (w .𝓤) (w .H) (w .𝓖 .A) (w .𝓜 .mem) (w .𝓡 .run)
+  pub row-tied : (w : World)
+      → closing (w .𝓤) (w .H) (w .𝓖 .A) call-row.ended (call-row.clauses (w .𝓤) (w .H) (w .𝓖 .A) (w .𝓜 .mem) (w .𝓡 .run))
+      ≡ call-row.spec (w .𝓤) (w .H) (w .𝓖 .A) (w .𝓜 .mem) (w .𝓡 .run)
