@@ -506,6 +506,10 @@ changes-nothing-else =
       step-state = λ k s body. step-leaves k s body .on-state;
       step-body = λ k s body. step-leaves k s body .on-body;
       finish = writes-finished;
+      lent-state = λ k s after r body new e. subst (λ t. Turns k s t) (sym e) (step-leaves k s body .on-state);
+      lent-body = λ k s after r body new e.
+          subst (λ (t : Turn). Kept (numberOf (t .gave .answer)) (s .used) (valueOf (t .gave .answer)) body (t .body)) (sym e)
+          (step-leaves k s body .on-body);
       sheet-body = λ input body out. sheet-leaves input body out .on-body;
       sheet-out = λ input body out. sheet-leaves input body out .on-out;
       c-step-state = counts;

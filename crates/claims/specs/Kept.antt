@@ -9,6 +9,7 @@ use Rattle.numbers.specs.Bytes as bytes
 use Rattle.numbers.specs.Bytes.{store}
 use Rattle.numbers.specs.Leb.{unsigned, signed}
 use Rattle.numbers.specs.Numbers as numbers
+use Rattle.fields.specs.declared.Answer.{Answer}
 use Rattle.fields.specs.declared.Found.{Found}
 use Rattle.fields.specs.declared.Read.{Read}
 use Rattle.fields.specs.declared.Read.the-variants as read
@@ -30,7 +31,7 @@ use Rattle.sections.specs.declared.Section.{Section}
 use Rattle.sections.specs.Finish.{finishing}
 use Rattle.sections.specs.Runs.{Step, Row, Open, Async, Params, Result, Abandon, turn}
 use Rattle.sections.specs.Section.{writeFamily}
-use Rattle.sections.specs.Steps.{Turn}
+use Rattle.sections.specs.Steps.{Turn, turned, gives}
 use Rattle.sheets.specs.Sheet as sheet
 use Rattle.sheets.specs.Sheet.{sheeted}
 use Rattle.cabi.specs.declared.Given.{Given}
@@ -126,6 +127,11 @@ pub record ChangesNothingElse : Type 0 where
   pub step-body : (k : Step) (s : Section) (body : List ℕ)
       → Kept (numberOf (turn k s body .gave .answer)) (s .used) (valueOf (turn k s body .gave .answer)) body (turn k s body .body)
   pub finish : (s : Section) (body out : List ℕ) → Writes 0 out (finishing s body out)
+  -- lent: the answer r, the state and the body at exit, of which a step's contract says that they are the step's by value
+  pub lent-state : (k : Step) (s after : Section) (r : Answer) (body new : List ℕ) → turned (gives after r) new ≡ turn k s body
+      → Turns k s (turned (gives after r) new)
+  pub lent-body : (k : Step) (s after : Section) (r : Answer) (body new : List ℕ) → turned (gives after r) new ≡ turn k s body
+      → Kept (numberOf r) (s .used) (valueOf r) body new
   -- sheets
   pub sheet-body : (input body out : List ℕ)
       → Kept (numberOf (sheeted input body out .answer)) 0 (length (rowBytes input)) body (sheeted input body out .body)

@@ -53,6 +53,13 @@ use Rattle.sections.proofs.Section.result as call-result
 use Rattle.sections.proofs.Section.abandon as call-abandon
 use Rattle.sections.proofs.Section.finish as call-finish
 use Rattle.sheets.proofs.sheet as call-sheet
+use Rattle.lent.proofs.row as call-lent-row
+use Rattle.lent.proofs.open as call-lent-open
+use Rattle.lent.proofs.make_async as call-lent-async
+use Rattle.lent.proofs.params as call-lent-params
+use Rattle.lent.proofs.result as call-lent-result
+use Rattle.lent.proofs.abandon as call-lent-abandon
+use Rattle.lent.proofs.finish as call-lent-finish
 use Rattle.cabi.proofs.tb_sheet as call-tb-sheet
 use Rattle.cabi.proofs.tb_read_type as call-tb-read-type
 use Rattle.cabi.proofs.tb_read_import as call-tb-read-import
@@ -122,6 +129,14 @@ pub record NoSecondOutcome : Type 2 where
   pub finish : OneOutcome call-finish.ended (λ M. call-finish.clauses)
   -- sheets
   pub sheet : OneOutcome call-sheet.ended (λ M. call-sheet.clauses)
+  -- lent: the state at exit is part of the outcome
+  pub lent-row : OneOutcome call-lent-row.ended (λ M. call-lent-row.clauses)
+  pub lent-open : OneOutcome call-lent-open.ended (λ M. call-lent-open.clauses)
+  pub lent-async : OneOutcome call-lent-async.ended (λ M. call-lent-async.clauses)
+  pub lent-params : OneOutcome call-lent-params.ended (λ M. call-lent-params.clauses)
+  pub lent-result : OneOutcome call-lent-result.ended (λ M. call-lent-result.clauses)
+  pub lent-abandon : OneOutcome call-lent-abandon.ended (λ M. call-lent-abandon.clauses)
+  pub lent-finish : OneOutcome call-lent-finish.ended (λ M. call-lent-finish.clauses)
   -- cabi
   pub tb-sheet : OneOutcome call-tb-sheet.ended (λ M. call-tb-sheet.clauses)
   pub tb-read-type : OneOutcome call-tb-read-type.ended (λ M. call-tb-read-type.clauses)
