@@ -1,59 +1,155 @@
-//! Loads for the bench: rows that both sides write, and whose section both sides read.
+//! Loads for the bench: rows that both sides write, and whose section both sides read; sheets of rows; rows that are refused.
 
 use crate::growing::Growing;
-use crate::random::Random;
+use crate::input::{family_of, Input};
+use crate::lean::PLAIN_IMPORTS;
+use crate::random::{row_of, Material, Random, KINDS, POOL_BYTES};
 use crate::sample::{Sample, JUDGE, PUMP, WATCH};
 use crate::tbaunarith::{IMPORTS, TYPES};
+use std::ops::{Range, RangeInclusive};
 
-/// Rows of one family beside their pool, gone through more than once for a long section.
+/// Rows beside their pool, gone through more than once for a long section; or sheets.
+#[derive(Default)]
 pub struct Load {
-    pub family: u64,
-    pub rows: Vec<Vec<u32>>,
-    pub pool: Vec<u8>,
+    pub input: Input,
+    /// The family for the crate's calls, which may be `PLAIN_IMPORTS`.
+    pub their_family: u64,
     pub repeats: usize,
+    pub sheets: Vec<Vec<u8>>,
+    /// How many rows these are in all.
+    pub items: usize,
+    /// Their section by the library's rows; of sheets the sections one after another.
+    pub section: Vec<u8>,
 }
 
-/// Makes a load whose section is about this long.
+/// A load by its name: what is done with it, how large it is where it is timed and where its instructions are counted, and
+/// what makes it of a size.
+pub struct Plan {
+    pub name: &'static str,
+    pub directions: &'static [&'static str],
+    pub timed: usize,
+    pub counted: usize,
+    pub make: Maker,
+}
+
 type Maker = fn(usize) -> Load;
 
-/// The loads by name.
-pub const LOADS: [(&str, Maker); 4] =
-    [("small-types", small_types), ("small-imports", small_imports), ("long-names", long_names), ("long-tuple", long_tuple)];
+/// Loads whose size is about how long the section is, so that growth can be shown.
+pub const GROWING: [Plan; 4] = [
+    by_bytes("small-types", small_types),
+    by_bytes("small-imports", small_imports),
+    by_bytes("long-names", long_names),
+    by_bytes("long-tuple", long_tuple),
+];
+
+/// Loads whose size is the number of rows, all of them made anew. Scripts are mixed within a name. wasmparser 0.239 reads no
+/// import with options and no async function.
+pub const VARIOUS: [Plan; 15] = [
+    by_rows("canonicals", WRITE, |rows| in_a_section(rows, CANONICAL, &[LATIN], any)),
+    by_rows("lift-lower", WRITE, |rows| in_a_section(rows, 0x100..=0x101, &[LATIN], any)),
+    by_rows("import-options", WRITE, |rows| in_a_section(rows, IMPORT, &[LATIN], has_options)),
+    by_rows("index-lists", WRITE_READ, |rows| in_a_section(rows, 3..=3, &[LATIN], |row| row[1] == 1)),
+    by_rows("enums", WRITE_READ, |rows| in_a_section(rows, 8..=8, &[LATIN], any)),
+    by_rows("functions", WRITE_READ, |rows| in_a_section(rows, 15..=15, &[LATIN], |row| row[1] == 0)),
+    by_rows("cyrillic", WRITE_READ, |rows| in_a_section(rows, 1..=1, &[CYRILLIC], any)),
+    by_rows("cjk", WRITE_READ, |rows| in_a_section(rows, 1..=1, &[CJK], any)),
+    by_rows("mixed-scripts", WRITE_READ, |rows| in_a_section(rows, 1..=1, &[LATIN, CYRILLIC, CJK], any)),
+    by_rows("types-by-3", SHEET, |rows| in_sheets(rows, TYPE, FEW)),
+    by_rows("types-by-500", SHEET, |rows| in_sheets(rows, TYPE, MANY)),
+    by_rows("imports-by-3", SHEET, |rows| in_sheets(rows, IMPORT, FEW)),
+    by_rows("imports-by-500", SHEET, |rows| in_sheets(rows, IMPORT, MANY)),
+    by_rows("canon-by-3", SHEET, |rows| in_sheets(rows, CANONICAL, FEW)),
+    by_rows("canon-by-500", SHEET, |rows| in_sheets(rows, CANONICAL, MANY)),
+];
+
+/// Long records, the first load's accepted and the others' refused at their last field, whose words are given: its name's two,
+/// tag and primitive. The size is how many fields all records have together.
+pub const REFUSED: [Plan; 3] = [
+    by_rows("accepted", TRY, |fields| long_records(fields, |_, _| ())),
+    by_rows("bad-tag", TRY, |fields| long_records(fields, |field, _| field[2] = 2)),
+    by_rows("bad-name", TRY, |fields| long_records(fields, |field, bad_name| field[..2].copy_from_slice(&bad_name))),
+];
+
+/// What can be done with a load.
+const WRITE: &[&str] = &["write"];
+const WRITE_READ: &[&str] = &["write", "read"];
+const SHEET: &[&str] = &["sheet"];
+const TRY: &[&str] = &["try"];
 
 /// How long a section is made of rows of its own; a longer one repeats them.
-pub const VARIED: usize = 16 * 1024;
+const VARIED: usize = 16 * 1024;
+
+/// How many rows are made anew where time is measured: more than a processor learns the branches of.
+const ROWS: usize = 20_000;
+
+/// The rows of a sheet.
+const FEW: usize = 3;
+const MANY: usize = 500;
+
+/// The families' kinds.
+const TYPE: RangeInclusive<u32> = 0..=16;
+const IMPORT: RangeInclusive<u32> = 17..=17;
+const CANONICAL: RangeInclusive<u32> = 0x100..=0x141;
+
+/// Scripts whose letters have one, two and three bytes: the first letter, and how many there are.
+const LATIN: (char, usize) = ('a', 26);
+const CYRILLIC: (char, usize) = ('а', 32);
+const CJK: (char, usize) = ('一', 20_992);
 
 /// A record's fields, and the bytes of their names.
 const FIELDS: usize = 8;
 const NAME: usize = 40;
 
+/// The fields of a record that is refused at the last, and a name that is not UTF-8.
+const LONG_RECORD: usize = 200;
+const BAD_NAME: &[u8] = b"pressur\xff";
+
 /// How many types a long tuple has, and below what their indices are: they take one to three bytes.
 const TUPLE: usize = 8_000;
 const INDICES: usize = 10_000;
 
+const fn by_bytes(name: &'static str, make: Maker) -> Plan {
+    Plan { name, directions: WRITE_READ, timed: VARIED, counted: VARIED, make }
+}
+
+const fn by_rows(name: &'static str, directions: &'static [&'static str], make: Maker) -> Plan {
+    Plan { name, directions, timed: ROWS, counted: ROWS / 10, make }
+}
+
 impl Load {
-    /// How many items its section has.
-    pub fn items(&self) -> usize {
-        self.rows.len() * self.repeats
+    /// Rows that are gone through so often.
+    fn of_rows(input: Input, repeats: usize) -> Load {
+        let rows: Vec<&Vec<u32>> = (0..repeats).flat_map(|_| &input.rows).collect();
+        let (items, section) = (rows.len(), section_of(&input, &rows));
+        let plain = input.family == IMPORTS && !input.rows.iter().any(|row| has_options(row));
+        let their_family = if plain { PLAIN_IMPORTS } else { input.family };
+        Load { input, their_family, repeats, items, section, ..Load::default() }
     }
 
-    /// Its section, by the library.
-    pub fn section(&self) -> Vec<u8> {
-        let rows: Vec<&Vec<u32>> = (0..self.repeats).flat_map(|_| &self.rows).collect();
-        Growing::of_rows(self.family, &rows, &self.pool).expect("rows of a load are valid")
+    /// Sheets.
+    fn of_sheets(inputs: &[Input]) -> Load {
+        let sheets = inputs.iter().map(|input| input.sheet().expect("rows that fit a sheet")).collect();
+        let sections: Vec<Vec<u8>> = inputs.iter().map(|input| section_of(input, &input.rows)).collect();
+        let items = inputs.iter().map(|input| input.rows.len()).sum();
+        Load { sheets, items, section: sections.concat(), ..Load::default() }
     }
 
     /// Rows from a maker, for a section of about this many bytes.
-    fn of(family: u64, pool: Vec<u8>, bytes: usize, mut make: impl FnMut() -> Vec<u32>) -> Load {
-        let mut load = Load { family, rows: Vec::new(), pool, repeats: bytes.div_ceil(VARIED) };
+    fn of_bytes(family: u64, pool: Vec<u8>, bytes: usize, mut make: impl FnMut() -> Vec<u32>) -> Load {
+        let mut input = Input { family, rows: Vec::new(), pool };
         let mut made = 0;
         while made < bytes.min(VARIED) {
             let row = make();
-            made += Growing::of_rows(family, &[&row], &load.pool).expect("a row of a load is valid").len() - 3;
-            load.rows.push(row);
+            made += section_of(&input, &[&row]).len() - 3;
+            input.rows.push(row);
         }
-        load
+        Load::of_rows(input, bytes.div_ceil(VARIED))
     }
+}
+
+/// The section of these rows beside the input's pool.
+fn section_of<R: AsRef<[u32]>>(input: &Input, rows: &[R]) -> Vec<u8> {
+    Growing::of_rows(input.family, rows, &input.pool).expect("rows of a load are valid")
 }
 
 fn small_types(bytes: usize) -> Load {
@@ -68,14 +164,14 @@ fn small_imports(bytes: usize) -> Load {
 fn of_samples(family: u64, bytes: usize) -> Load {
     let sample = Sample::of(&[JUDGE, PUMP, WATCH].concat()).expect("the samples are right");
     let (rows, mut random) = (sample.rows(family), Random::new(family));
-    Load::of(family, sample.pool.clone(), bytes, || random.pick(&rows).to_vec())
+    Load::of_bytes(family, sample.pool.clone(), bytes, || random.pick(&rows).to_vec())
 }
 
 /// Records of long ASCII names.
 fn long_names(bytes: usize) -> Load {
     let mut random = Random::new(1);
     let pool: Vec<u8> = (0..64 * NAME).map(|_| b'a' + random.below(26) as u8).collect();
-    Load::of(TYPES, pool, bytes, || {
+    Load::of_bytes(TYPES, pool, bytes, || {
         let mut row = vec![1, FIELDS as u32];
         for _ in 0..FIELDS {
             row.extend([(random.below(64) * NAME) as u32, NAME as u32, 0, random.below(13) as u32]);
@@ -87,9 +183,132 @@ fn long_names(bytes: usize) -> Load {
 /// Tuples of many indices.
 fn long_tuple(bytes: usize) -> Load {
     let (mut random, types) = (Random::new(2), TUPLE.min(bytes / 2));
-    Load::of(TYPES, Vec::new(), bytes, || {
+    Load::of_bytes(TYPES, Vec::new(), bytes, || {
         let mut row = vec![6, types as u32];
         row.extend((0..types).flat_map(|_| [1, random.below(INDICES) as u32]));
         row
     })
+}
+
+/// Rows of some kinds that fit, all beside one pool.
+fn in_a_section(rows: usize, kinds: RangeInclusive<u32>, scripts: Scripts, fits: fn(&[u32]) -> bool) -> Load {
+    Load::of_rows(Usual::new(scripts, 0..8).input(rows, kinds, fits), 1)
+}
+
+fn any(_: &[u32]) -> bool {
+    true
+}
+
+/// Of an import.
+fn has_options(row: &[u32]) -> bool {
+    row[3] + row[6] + row[9] > 0
+}
+
+/// Rows of some kinds in sheets of so many, each with a pool of its own.
+fn in_sheets(rows: usize, kinds: RangeInclusive<u32>, in_each: usize) -> Load {
+    let mut usual = Usual::new(&[LATIN], 0..8);
+    let inputs: Vec<Input> = (0..rows.div_ceil(in_each)).map(|_| usual.input(in_each, kinds.clone(), any)).collect();
+    Load::of_sheets(&inputs)
+}
+
+/// Long records, changed in the words of their last field, which gets a name that is not UTF-8 to take.
+fn long_records(fields: usize, change: fn(&mut [u32], [u32; 2])) -> Load {
+    let mut usual = Usual::new(&[LATIN], LONG_RECORD..LONG_RECORD + 1);
+    let mut load = Load::of_rows(usual.input(fields / LONG_RECORD, 1..=1, any), 1);
+    let start = load.input.pool.len() as u32;
+    load.input.pool.extend(BAD_NAME);
+    for row in &mut load.input.rows {
+        let last = row.len() - 4;
+        change(&mut row[last..], [start, BAD_NAME.len() as u32]);
+    }
+    load
+}
+
+/// The scripts that a name's letters are of.
+type Scripts = &'static [(char, usize)];
+
+/// Material such as a user has: short names and lists, and indices of one to three bytes, small ones as often as large.
+struct Usual {
+    random: Random,
+    scripts: Scripts,
+    entries: Range<usize>,
+    pool: Vec<u8>,
+    names: Vec<[u32; 2]>,
+}
+
+impl Usual {
+    fn new(scripts: Scripts, entries: Range<usize>) -> Usual {
+        Usual { random: Random::new(3), scripts, entries, pool: Vec::new(), names: Vec::new() }
+    }
+
+    /// So many rows of some kinds that fit, beside a new pool.
+    fn input(&mut self, rows: usize, kinds: RangeInclusive<u32>, fits: fn(&[u32]) -> bool) -> Input {
+        let kinds: Vec<u32> = KINDS.iter().copied().filter(|kind| kinds.contains(kind)).collect();
+        let mut input = Input { family: family_of(kinds[0]), ..Input::default() };
+        self.names.clear();
+        while input.rows.len() < rows {
+            let row = row_of(*self.random.pick(&kinds), self);
+            if fits(&row) {
+                input.rows.push(row);
+            }
+        }
+        input.pool = std::mem::take(&mut self.pool);
+        input
+    }
+}
+
+impl Material for Usual {
+    fn random(&mut self) -> &mut Random {
+        &mut self.random
+    }
+
+    fn number(&mut self) -> u32 {
+        let bits = self.random.below(15);
+        self.random.below(1 << bits) as u32
+    }
+
+    fn entries(&mut self, _: usize) -> usize {
+        self.entries.start + self.random.below(self.entries.len())
+    }
+
+    /// A name of 3 to 12 letters at the pool's end, or an earlier one where the pool is full.
+    fn name(&mut self) -> [u32; 2] {
+        let letters = 3 + self.random.below(10);
+        let (start, longest) = (self.pool.len(), 4 * letters);
+        if start + longest + BAD_NAME.len() > POOL_BYTES {
+            return *self.random.pick(&self.names);
+        }
+        for _ in 0..letters {
+            let (first, count) = *self.random.pick(self.scripts);
+            let letter = char::from_u32(first as u32 + self.random.below(count) as u32).expect("a letter");
+            self.pool.extend(letter.encode_utf8(&mut [0; 4]).bytes());
+        }
+        let name = [start as u32, (self.pool.len() - start) as u32];
+        self.names.push(name);
+        name
+    }
+}
+
+#[cfg(test)]
+mod tests {
+    use super::*;
+    use crate::tbaunarith::{Refusal, Refused};
+
+    #[test]
+    fn long_records_are_refused_at_their_last_field() {
+        let answers = REFUSED.map(|plan| {
+            let Load { input, .. } = (plan.make)(2 * LONG_RECORD);
+            Growing::of_rows(TYPES, &input.rows, &input.pool).map(|_| ())
+        });
+        let field = 2 + 4 * (LONG_RECORD as u64 - 1);
+        let [tag, text] = [(Refusal::Tag, field + 2), (Refusal::Text, field)].map(|(why, value)| Err(Refused { why, value }));
+        assert_eq!(answers, [Ok(()), tag, text]);
+    }
+
+    #[test]
+    fn small_sizes_make_loads() {
+        for plan in VARIOUS {
+            assert!((plan.make)(1).items > 0, "{}", plan.name);
+        }
+    }
 }

@@ -49,7 +49,7 @@ const NOT_TEXT: [&[u8]; 14] = [
 
 /// The most words of a row and the most bytes of a pool.
 const ROW_WORDS: usize = 16_384;
-const POOL_BYTES: usize = 65_536;
+pub const POOL_BYTES: usize = 65_536;
 
 /// The generator (splitmix64): the same seed gives the same numbers.
 #[derive(Clone, Debug)]
@@ -180,7 +180,12 @@ impl Random {
 /// that; what stands in it beforehand may be any bytes. Rows are mostly of few entries, seldom as long as a row may be.
 /// A kind that is not of `KINDS` gives a row of that word alone.
 pub fn valid_row(rng: &mut Random, kind: u32, pool: &mut Vec<u8>) -> Vec<u32> {
-    let mut maker = RowMaker { rng, pool, words: vec![kind] };
+    row_of(kind, &mut Edges { rng, pool })
+}
+
+/// A row of a kind, made of this material. A kind that is not of `KINDS` gives a row of that word alone.
+pub fn row_of(kind: u32, material: &mut impl Material) -> Vec<u32> {
+    let mut maker = RowMaker { material, words: vec![kind] };
     match kind {
         0..=14 => maker.defined_type(kind),
         15 => {
@@ -201,39 +206,55 @@ pub fn valid_row(rng: &mut Random, kind: u32, pool: &mut Vec<u8>) -> Vec<u32> {
     maker.words
 }
 
-/// A row being made.
-struct RowMaker<'a> {
-    rng: &'a mut Random,
-    pool: &'a mut Vec<u8>,
-    words: Vec<u32>,
+/// What rows are made of.
+pub trait Material {
+    /// What the choices between forms are made with.
+    fn random(&mut self) -> &mut Random;
+
+    /// A count, length or index.
+    fn number(&mut self) -> u32;
+
+    /// How many entries a list has, at most so many.
+    fn entries(&mut self, most: usize) -> usize;
+
+    /// A name: its start and length in the pool.
+    fn name(&mut self) -> [u32; 2];
 }
 
-impl RowMaker<'_> {
-    /// A count, length or index.
-    fn number(&mut self) {
-        let number = self.rng.number();
-        self.words.push(number);
+/// Material at which an encoding, a limit or a list changes.
+struct Edges<'a> {
+    rng: &'a mut Random,
+    pool: &'a mut Vec<u8>,
+}
+
+impl Material for Edges<'_> {
+    fn random(&mut self) -> &mut Random {
+        self.rng
     }
 
-    /// One of 0..=last.
-    fn up_to(&mut self, last: u32) -> u32 {
-        let word = self.rng.below(last as usize + 1) as u32;
-        self.words.push(word);
-        word
+    fn number(&mut self) -> u32 {
+        self.rng.number()
     }
 
-    /// N: a name appended to the pool, or one found in it.
-    fn name(&mut self) {
+    fn entries(&mut self, most: usize) -> usize {
+        self.rng.entries(most)
+    }
+
+    /// A name appended to the pool, or one found in it.
+    fn name(&mut self) -> [u32; 2] {
         let name = self.rng.name();
         if self.rng.one_in(4) || self.pool.len() + name.len() > POOL_BYTES {
             return self.found_name();
         }
-        self.words.extend([self.pool.len() as u32, name.len() as u32]);
+        let start = self.pool.len();
         self.pool.extend_from_slice(&name);
+        [start as u32, name.len() as u32]
     }
+}
 
-    /// N: a part of the pool that is UTF-8, empty if the part that was tried is not.
-    fn found_name(&mut self) {
+impl Edges<'_> {
+    /// A part of the pool that is UTF-8, empty if the part that was tried is not.
+    fn found_name(&mut self) -> [u32; 2] {
         let start = self.rng.below(self.pool.len() + 1);
         let rest = self.pool.len() - start;
         let length = if self.rng.one_in(64) { rest } else { self.rng.below(rest.min(12) + 1) };
@@ -241,7 +262,34 @@ impl RowMaker<'_> {
             Ok(_) => length,
             Err(fault) => fault.valid_up_to(),
         };
-        self.words.extend([start as u32, length as u32]);
+        [start as u32, length as u32]
+    }
+}
+
+/// A row being made.
+struct RowMaker<'a, M> {
+    material: &'a mut M,
+    words: Vec<u32>,
+}
+
+impl<M: Material> RowMaker<'_, M> {
+    /// A count, length or index.
+    fn number(&mut self) {
+        let number = self.material.number();
+        self.words.push(number);
+    }
+
+    /// One of 0..=last.
+    fn up_to(&mut self, last: u32) -> u32 {
+        let word = self.material.random().below(last as usize + 1) as u32;
+        self.words.push(word);
+        word
+    }
+
+    /// N.
+    fn name(&mut self) {
+        let name = self.material.name();
+        self.words.extend(name);
     }
 
     /// V: a primitive or an index.
@@ -256,7 +304,7 @@ impl RowMaker<'_> {
 
     /// O: a V or absent.
     fn optional(&mut self) {
-        if self.rng.one_in(3) {
+        if self.material.random().one_in(3) {
             self.words.extend([2, 0]);
         } else {
             self.value_type();
@@ -265,7 +313,7 @@ impl RowMaker<'_> {
 
     /// n and its entries; `others` are the row's words that are no entry's, `size` the words of one.
     fn list(&mut self, others: usize, size: usize, entry: fn(&mut Self)) {
-        let count = self.rng.entries((ROW_WORDS - others) / size);
+        let count = self.material.entries((ROW_WORDS - others) / size);
         self.words.push(count as u32);
         for _ in 0..count {
             entry(self);

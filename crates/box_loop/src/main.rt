@@ -8,6 +8,7 @@ ghost use Prim.Native.Nat.{_<_};
 ghost use Rattle.fields.specs.Write.{left};
 ghost use Rattle.box_loop.specs.Script.{scripted, closed};
 
+// Which step a line is of.
 const ROW: u32 = 0;
 
 const OPEN: u32 = 1;
@@ -75,9 +76,11 @@ fn show(step: u32, answer: Answer, section: Section) {
     say(b"\n");
 }
 
-// The steps with the state lent: it stands in one local, and each step leaves the next state there.
+// The steps with the state lent: it stands in one local, and each step leaves the next state there. What comes out is what the
+// definitions of the steps by value say.
 fn by_lending(row: &[u32], words: &[u32], pool: &[u8], body: &mut [u8], out: &mut [u8]) -> Answer
-    ensures { λ r. ⌜ (left r (now (out .exit)) ≡ closed (scripted (now (row .entry)) (now (words .entry)) (now (pool .entry)) (now (body .entry))) (now (out .entry)))
+    ensures { λ r. ⌜ (left r (now (out .exit))
+        ≡ closed (scripted (now (row .entry)) (now (words .entry)) (now (pool .entry)) (now (body .entry))) (now (out .entry)))
         × (now (body .exit) ≡ scripted (now (row .entry)) (now (words .entry)) (now (pool .entry)) (now (body .entry)) .body) ⌝ }
 {
     let mut section = Section::new(7);

@@ -43,13 +43,13 @@ passed true w n x size e = let z : _≡_ {A = ℕ} 0 1 = cc in absurd (omega ari
 passed false w n x size e = (refl, e)
 
 -- a row of a shape that has a size: it is short, as long as it needs, and its fields are right
-record Accepted (s : Shape) (row : List ℕ) (start : ℕ) (pool : List ℕ) (size : ℕ) : Type 0 where
-  short : length row ≤ 16384
-  small : length pool ≤ 65536
-  width : rowWidth s row start ≡ length row
-  place : ℕ
-  fine : judged s pool row start ≡ Fine place size
-  fits : size ≤ 4294967295
+pub record Accepted (s : Shape) (row : List ℕ) (start : ℕ) (pool : List ℕ) (size : ℕ) : Type 0 where
+  pub short : length row ≤ 16384
+  pub small : length pool ≤ 65536
+  pub width : rowWidth s row start ≡ length row
+  pub place : ℕ
+  pub fine : judged s pool row start ≡ Fine place size
+  pub fits : size ≤ 4294967295
 
 accepted-sized : (s : Shape) (row : List ℕ) (start : ℕ) (pool : List ℕ) (size : ℕ) → measured s row start pool ≡ Size size → Accepted s row start pool size
 unfolding measured sized
@@ -72,7 +72,7 @@ accepted-sized s row start pool size e =
     wide-enough false p short small e = let z : _≡_ {A = ℕ} 0 1 = cc in absurd (omega arith)
 
 -- and the other way
-sized-accepted : (s : Shape) (row : List ℕ) (start : ℕ) (pool : List ℕ) (size : ℕ) → Accepted s row start pool size → measured s row start pool ≡ Size size
+pub sized-accepted : (s : Shape) (row : List ℕ) (start : ℕ) (pool : List ℕ) (size : ℕ) → Accepted s row start pool size → measured s row start pool ≡ Size size
 unfolding measured sized
 sized-accepted s row start pool size a =
     simp (le-ltb _ _ (a .short), le-ltb _ _ (a .small), eq-eqb _ _ (a .width)) (rw (a .fine) (simp (le-ltb _ _ (a .fits))))
@@ -129,9 +129,9 @@ options-length : (pool : List ℕ) (n : ℕ) (os : List ℕ) → length (opts (n
 options-length pool n os = length-append (unsigned n) _ ∙ ap (λ l. length (unsigned n) + length l) (sym (options-bytes pool n os))
 
 -- a row that is accepted and written as bs
-record Part (s : Shape) (row : List ℕ) (start : ℕ) (pool bs : List ℕ) : Type 0 where
-  accepted : Accepted s row start pool (length bs)
-  same : written s pool row start ≡ bs
+pub record Part (s : Shape) (row : List ℕ) (start : ℕ) (pool bs : List ℕ) : Type 0 where
+  pub accepted : Accepted s row start pool (length bs)
+  pub same : written s pool row start ≡ bs
 
 module _ (pool : List ℕ) (small : length pool ≤ 65536) where
   function-part : (k f : ℕ) → length (0x00 ∷ 0x00 ∷ unsigned f) ≤ 4294967295 → Part functionShape (k ∷ f ∷ []) 1 pool (0x00 ∷ 0x00 ∷ unsigned f)

@@ -1,9 +1,12 @@
 // Kinds 256 + lead: the canonical definitions of the component binary document.
+mod straight;
+
 use fields::Answer;
 use fields::Field;
 use fields::Found;
 use fields::Refusal;
 use fields::Shape;
+ghost use Prim.Native.Nat.{_%_};
 ghost use mathlib.Core.Path.{_≡_};
 ghost use lib.ListN.{drop};
 ghost use lib.Seq.{sets};
@@ -11,7 +14,31 @@ ghost use Rattle.fields.specs.Row.{measuredRow};
 ghost use Rattle.fields.specs.Table.{shapeIn, twoOf, manyOf};
 ghost use Rattle.fields.specs.Write.{left, stored, valueOf};
 ghost use Rattle.canonicals.specs.Table.{plain, zeroed, optioned, table, liftShape, lift};
-ghost use Rattle.canonicals.specs.Write.{shapeOf, LiftFits, measuredCanonical, writeCanonical};
+ghost use Rattle.canonicals.specs.Class.{shapeFor};
+ghost use Rattle.canonicals.specs.Write.{LiftFits, measuredCanonical, writeCanonical};
+
+// What a canonical other than lift has behind its lead.
+enum Class {
+    Nothing,
+    // A byte 00.
+    Zero,
+    Index,
+    // A byte 00 and an index.
+    ZeroIndex,
+    // Two indices.
+    Indices,
+    Flag,
+    // An index and a flag.
+    IndexFlag,
+    // A representation and an index.
+    RepIndex,
+    // An index and options.
+    Options,
+    // A byte 00, an index and options.
+    ZeroOptions,
+    // There is no such kind.
+    Not,
+}
 
 // A lead and two fields.
 fn plain_of(lead: u8, first: Field, second: Field) -> Found
@@ -46,94 +73,113 @@ fn optioned_of(lead: u8, zero: Field) -> Found
     )
 }
 
-// The shape of a kind other than lift: a line of the table for each.
-fn line_of(kind: u32) -> Found
-    ensures { λ r. ⌜ r ≡ shapeIn table kind ⌝ }
+// The class of a kind other than lift: a line of the table for each.
+fn class_of(kind: u32) -> Class
+    ensures { λ r. ⌜ shapeIn table kind ≡ shapeFor r (kind % 256) ⌝ }
 {
     match kind {
         // lower
-        0x101 => optioned_of(0x01, Field::Fixed(0x00)),
+        0x101 => Class::ZeroOptions,
         // resource.new
-        0x102 => plain_of(0x02, Field::Index, Field::Nothing),
+        0x102 => Class::Index,
         // resource.drop
-        0x103 => plain_of(0x03, Field::Index, Field::Nothing),
+        0x103 => Class::Index,
         // resource.rep
-        0x104 => plain_of(0x04, Field::Index, Field::Nothing),
+        0x104 => Class::Index,
         // task.cancel
-        0x105 => plain_of(0x05, Field::Nothing, Field::Nothing),
+        0x105 => Class::Nothing,
         // subtask.cancel
-        0x106 => plain_of(0x06, Field::Flag, Field::Nothing),
+        0x106 => Class::Flag,
         // context.get
-        0x10a => plain_of(0x0a, Field::Rep, Field::Index),
+        0x10a => Class::RepIndex,
         // context.set
-        0x10b => plain_of(0x0b, Field::Rep, Field::Index),
+        0x10b => Class::RepIndex,
         // thread.yield
-        0x10c => zeroed_of(0x0c, Field::Nothing),
+        0x10c => Class::Zero,
         // subtask.drop
-        0x10d => plain_of(0x0d, Field::Nothing, Field::Nothing),
+        0x10d => Class::Nothing,
         // stream.new
-        0x10e => plain_of(0x0e, Field::Index, Field::Nothing),
+        0x10e => Class::Index,
         // stream.read
-        0x10f => optioned_of(0x0f, Field::Nothing),
+        0x10f => Class::Options,
         // stream.cancel-read
-        0x111 => plain_of(0x11, Field::Index, Field::Flag),
+        0x111 => Class::IndexFlag,
         // stream.cancel-write
-        0x112 => plain_of(0x12, Field::Index, Field::Flag),
+        0x112 => Class::IndexFlag,
         // stream.drop-readable
-        0x113 => plain_of(0x13, Field::Index, Field::Nothing),
+        0x113 => Class::Index,
         // stream.drop-writable
-        0x114 => plain_of(0x14, Field::Index, Field::Nothing),
+        0x114 => Class::Index,
         // future.new
-        0x115 => plain_of(0x15, Field::Index, Field::Nothing),
+        0x115 => Class::Index,
         // future.read
-        0x116 => optioned_of(0x16, Field::Nothing),
+        0x116 => Class::Options,
         // future.cancel-read
-        0x118 => plain_of(0x18, Field::Index, Field::Flag),
+        0x118 => Class::IndexFlag,
         // future.cancel-write
-        0x119 => plain_of(0x19, Field::Index, Field::Flag),
+        0x119 => Class::IndexFlag,
         // future.drop-readable
-        0x11a => plain_of(0x1a, Field::Index, Field::Nothing),
+        0x11a => Class::Index,
         // future.drop-writable
-        0x11b => plain_of(0x1b, Field::Index, Field::Nothing),
+        0x11b => Class::Index,
         // error-context.drop
-        0x11e => plain_of(0x1e, Field::Nothing, Field::Nothing),
+        0x11e => Class::Nothing,
         // waitable-set.new
-        0x11f => plain_of(0x1f, Field::Nothing, Field::Nothing),
+        0x11f => Class::Nothing,
         // waitable-set.wait
-        0x120 => zeroed_of(0x20, Field::Index),
+        0x120 => Class::ZeroIndex,
         // waitable-set.poll
-        0x121 => zeroed_of(0x21, Field::Index),
+        0x121 => Class::ZeroIndex,
         // waitable-set.drop
-        0x122 => plain_of(0x22, Field::Nothing, Field::Nothing),
+        0x122 => Class::Nothing,
         // waitable.join
-        0x123 => plain_of(0x23, Field::Nothing, Field::Nothing),
+        0x123 => Class::Nothing,
         // backpressure.inc
-        0x124 => plain_of(0x24, Field::Nothing, Field::Nothing),
+        0x124 => Class::Nothing,
         // backpressure.dec
-        0x125 => plain_of(0x25, Field::Nothing, Field::Nothing),
+        0x125 => Class::Nothing,
         // thread.index
-        0x126 => plain_of(0x26, Field::Nothing, Field::Nothing),
+        0x126 => Class::Nothing,
         // thread.new-indirect
-        0x127 => plain_of(0x27, Field::Index, Field::Index),
+        0x127 => Class::Indices,
         // thread.suspend
-        0x129 => zeroed_of(0x29, Field::Nothing),
+        0x129 => Class::Zero,
         // thread.suspend-then-resume
-        0x12a => zeroed_of(0x2a, Field::Nothing),
+        0x12a => Class::Zero,
         // thread.yield-then-resume
-        0x12b => zeroed_of(0x2b, Field::Nothing),
+        0x12b => Class::Zero,
         // thread.suspend-then-promote
-        0x12c => zeroed_of(0x2c, Field::Nothing),
+        0x12c => Class::Zero,
         // thread.yield-then-promote
-        0x12d => zeroed_of(0x2d, Field::Nothing),
+        0x12d => Class::Zero,
         // stream.forward
-        0x12e => plain_of(0x2e, Field::Index, Field::Nothing),
+        0x12e => Class::Index,
         // future.forward
-        0x12f => plain_of(0x2f, Field::Index, Field::Nothing),
+        0x12f => Class::Index,
         // thread.spawn-ref
-        0x140 => plain_of(0x40, Field::Index, Field::Nothing),
+        0x140 => Class::Index,
         // thread.spawn-indirect
-        0x141 => plain_of(0x41, Field::Index, Field::Index),
-        _ => Found::Not,
+        0x141 => Class::Indices,
+        _ => Class::Not,
+    }
+}
+
+// The shape of a class behind a lead.
+fn line_of(class: Class, lead: u8) -> Found
+    ensures { λ r. ⌜ r ≡ shapeFor class lead ⌝ }
+{
+    match class {
+        Class::Nothing => plain_of(lead, Field::Nothing, Field::Nothing),
+        Class::Zero => zeroed_of(lead, Field::Nothing),
+        Class::Index => plain_of(lead, Field::Index, Field::Nothing),
+        Class::ZeroIndex => zeroed_of(lead, Field::Index),
+        Class::Indices => plain_of(lead, Field::Index, Field::Index),
+        Class::Flag => plain_of(lead, Field::Flag, Field::Nothing),
+        Class::IndexFlag => plain_of(lead, Field::Index, Field::Flag),
+        Class::RepIndex => plain_of(lead, Field::Rep, Field::Index),
+        Class::Options => optioned_of(lead, Field::Nothing),
+        Class::ZeroOptions => optioned_of(lead, Field::Fixed(0x00)),
+        Class::Not => Found::Not,
     }
 }
 
@@ -153,22 +199,24 @@ fn lift_shape() -> Shape
     }
 }
 
-// The shape of a kind.
-fn shape_of(kind: u32) -> Found
-    ensures { λ r. ⌜ r ≡ shapeOf kind ⌝ }
-{
-    if kind == 256 {
-        return Found::Is(lift_shape());
-    }
-    line_of(kind)
-}
-
 // The size of a canonical row, or why it is refused, room apart.
 pub fn measure(row: &[u32], pool: &[u8]) -> Answer
     ensures { λ r. ⌜ r ≡ measuredCanonical (now (row .entry)) (now (pool .entry)) ⌝ }
 {
-    let shape = shape_of(fields::kind_of(row));
-    fields::measure_row(shape, row, pool)
+    let kind = fields::kind_of(row);
+    if kind == 256 {
+        let lifted = straight::lift_size(row, pool);
+        if 0 < lifted {
+            return Answer::Size(lifted);
+        }
+        return fields::measure_row(Found::Is(lift_shape()), row, pool);
+    }
+    let class = class_of(kind);
+    let size = straight::class_size(class, row, pool);
+    if 0 < size {
+        return Answer::Size(size);
+    }
+    fields::measure_row(line_of(class, (kind % 256) as u8), row, pool)
 }
 
 // Fields without a count.
@@ -251,7 +299,17 @@ pub fn write(row: &[u32], pool: &[u8], out: &mut [u8], at: usize) -> Answer
 {
     let kind = fields::kind_of(row);
     if kind == 256 {
+        let lifted = straight::lift_row(row, pool, out, at);
+        if 0 < lifted {
+            return Answer::Size(lifted);
+        }
         return write_lift(row, pool, out, at);
     }
-    fields::write_row(line_of(kind), row, pool, out, at)
+    let class = class_of(kind);
+    let lead = (kind % 256) as u8;
+    let size = straight::write_class(class, lead, row, pool, out, at);
+    if 0 < size {
+        return Answer::Size(size);
+    }
+    fields::write_row(line_of(class, lead), row, pool, out, at)
 }

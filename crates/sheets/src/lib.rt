@@ -223,21 +223,27 @@ fn section_size(rows: u32, used: usize) -> usize
 }
 
 // The rows tried, body and output room included, and only then written and finished.
-fn sheet_rows(input: &[u8], start: usize, body: &mut [u8], out: &mut [u8]) -> Answer
+fn sheet_rows(
+    input: &[u8],
+    start: usize,
+    scratch: &mut [u32],
+    body: &mut [u8],
+    out: &mut [u8],
+) -> Answer
     requires { ⌜ RowsAt (now input) start ⌝ }
     requires { ⌜ length (now input) ≤ 65536 ⌝ }
+    requires { ⌜ length (now input) ≤ 4 * length (now scratch) ⌝ }
     ensures { λ r. ⌜ left r (now (body .exit)) (now (out .exit)) ≡ ofRows (framed (now (input .entry))) (poolOf (now (input .entry))) (now (body .entry)) (now (out .entry)) ⌝ }
 {
     let family = family_at(input, start);
     let pool = &input[5..start];
-    let mut scratch = [0u32; 16384];
-    match try_rows(input, start, family, pool, &mut scratch, body.len()) {
+    match try_rows(input, start, family, pool, scratch, body.len()) {
         Leaf::Fine(rows, used) => {
             let count = rows as u32;
             if out.len() < section_size(count, used) {
                 return Answer::Refused(Refusal::Room, rows);
             }
-            write_rows(input, start, family, pool, &mut scratch, body);
+            write_rows(input, start, family, pool, scratch, body);
             let section = Section {
                 family: family,
                 used: used,
@@ -250,6 +256,52 @@ fn sheet_rows(input: &[u8], start: usize, body: &mut [u8], out: &mut [u8]) -> An
     }
 }
 
+// The rows with a scratch row of 256 words. Zeroing a large array costs more than a small sheet does: the sheet's length chooses one of
+// three functions, and only the array of that one is zeroed.
+fn sheet_small(input: &[u8], start: usize, body: &mut [u8], out: &mut [u8]) -> Answer
+    requires { ⌜ RowsAt (now input) start ⌝ }
+    requires { ⌜ length (now input) ≤ 1024 ⌝ }
+    ensures { λ r. ⌜ left r (now (body .exit)) (now (out .exit)) ≡ ofRows (framed (now (input .entry))) (poolOf (now (input .entry))) (now (body .entry)) (now (out .entry)) ⌝ }
+{
+    let mut scratch = [0u32; 256];
+    sheet_rows(input, start, &mut scratch, body, out)
+}
+
+// The same with 2,048 words.
+fn sheet_middle(input: &[u8], start: usize, body: &mut [u8], out: &mut [u8]) -> Answer
+    requires { ⌜ RowsAt (now input) start ⌝ }
+    requires { ⌜ length (now input) ≤ 8192 ⌝ }
+    ensures { λ r. ⌜ left r (now (body .exit)) (now (out .exit)) ≡ ofRows (framed (now (input .entry))) (poolOf (now (input .entry))) (now (body .entry)) (now (out .entry)) ⌝ }
+{
+    let mut scratch = [0u32; 2048];
+    sheet_rows(input, start, &mut scratch, body, out)
+}
+
+// The same with 16,384 words, enough for the longest sheet.
+fn sheet_large(input: &[u8], start: usize, body: &mut [u8], out: &mut [u8]) -> Answer
+    requires { ⌜ RowsAt (now input) start ⌝ }
+    requires { ⌜ length (now input) ≤ 65536 ⌝ }
+    ensures { λ r. ⌜ left r (now (body .exit)) (now (out .exit)) ≡ ofRows (framed (now (input .entry))) (poolOf (now (input .entry))) (now (body .entry)) (now (out .entry)) ⌝ }
+{
+    let mut scratch = [0u32; 16384];
+    sheet_rows(input, start, &mut scratch, body, out)
+}
+
+// The rows with the smallest of the three scratch rows that has a word for every four bytes of the sheet.
+fn sheet_sized(input: &[u8], start: usize, body: &mut [u8], out: &mut [u8]) -> Answer
+    requires { ⌜ RowsAt (now input) start ⌝ }
+    requires { ⌜ length (now input) ≤ 65536 ⌝ }
+    ensures { λ r. ⌜ left r (now (body .exit)) (now (out .exit)) ≡ ofRows (framed (now (input .entry))) (poolOf (now (input .entry))) (now (body .entry)) (now (out .entry)) ⌝ }
+{
+    if input.len() <= 1024 {
+        return sheet_small(input, start, body, out);
+    }
+    if input.len() <= 8192 {
+        return sheet_middle(input, start, body, out);
+    }
+    sheet_large(input, start, body, out)
+}
+
 // The sheet's rows as the bytes at the front of body, and the finished section at the front of out. The answer's value is the
 // section's size, or the row at which the sheet is refused, counted from 0.
 pub fn sheet(input: &[u8], body: &mut [u8], out: &mut [u8]) -> Answer
@@ -259,7 +311,7 @@ pub fn sheet(input: &[u8], body: &mut [u8], out: &mut [u8]) -> Answer
         return Answer::Refused(Refusal::Limit, 0);
     }
     match rows_of(input) {
-        Framing::At(start) => sheet_rows(input, start, body, out),
+        Framing::At(start) => sheet_sized(input, start, body, out),
         Framing::Broken => Answer::Refused(Refusal::Sheet, 0),
     }
 }

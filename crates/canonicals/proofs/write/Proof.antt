@@ -1,53 +1,36 @@
--- `canonicals::write` meets its contract: kind 256 is a lift, and any other row is written by its line of the table.
-use borrow.Author.Needs.{needs}
-use borrow.Author.Tests.{eq-eqb, ne-eqb}
+-- `write` meets its contract: what straight code writes is the row written, and otherwise nothing was done: a lift then goes its way, and any other row
+-- that of its line of the table.
 use mathlib.Core.Path.{sym, _∙_}
+use native.Mathlib.Omega.{arith}
+use borrow.Author.Tests.{eq-eqb, ne-eqb}
 use Rattle.fields.specs.Row.{writeRow}
 use Rattle.canonicals.specs.Write.{measuredCanonical, canonicalBytes, writeCanonical}
+use borrow.Author.Needs.{needs}
 use Rattle.canonicals.proofs.write.Statement.{statement}
 use Rattle.canonicals.proofs.write.Tie as tie
 
-kind-of-requires : tie.Need-kind-of-requires
-kind-of-requires c κs = search needs
-
-write-lift-requires : tie.Need-write-lift-requires
-write-lift-requires c κs = search needs
-
-same-length : tie.Need-same-length
-same-length c = search needs
-
 returns : tie.Need-returns
 unfolding writeCanonical measuredCanonical canonicalBytes
-returns c =
-    let test = c .before .before .before .before in
-    simp (eq-eqb _ _ (sym (test .before .kind-of .ensures) ∙ test .if1 .taken)) (c .before .before .write-lift .ensures)
-
-line-of-requires : tie.Need-line-of-requires
-line-of-requires c κs = search needs
-
-write-row-requires : tie.Need-write-row-requires
-write-row-requires c κs = search needs
-
-same-length-2 : tie.Need-same-length-2
-same-length-2 c = search needs
+returns c = simp (eq-eqb _ _ (sym (c .before .before .before .before .before .before .kind-of .ensures) ∙ c .before .before .before .before .before .if1 .taken)) (c .before .before .before .lift-row .ensures .some (c .if2 .taken))
 
 returns-2 : tie.Need-returns-2
-unfolding writeCanonical measuredCanonical canonicalBytes writeRow
+unfolding writeCanonical measuredCanonical canonicalBytes
 returns-2 c =
-    let line = c .before .before .before .before in
-    let test = line .before in
-    let kind = test .before .kind-of .ensures in
-    simp (ne-eqb _ _ (λ e. test .if1 .left (kind ∙ e)), ← kind, ← line .line-of .ensures) (c .before .before .write-row .ensures)
+    simp (eq-eqb _ _ (sym (c .before .before .before .before .before .before .before .before .before .before .kind-of .ensures) ∙ c .before .before .before .before .before .before .before .before .before .if1 .taken), ← c .before .before .before .before .before .before .before .lift-row .ensures .none (omega arith)) (c .before .before .write-lift .ensures)
+
+returns-3 : tie.Need-returns-3
+unfolding writeCanonical measuredCanonical canonicalBytes writeRow
+returns-3 c =
+    simp (ne-eqb _ _ (λ e. c .before .before .before .before .before .before .if1 .left (c .before .before .before .before .before .before .before .kind-of .ensures ∙ e)), ← c .before .before .before .before .before .before .before .kind-of .ensures, c .before .before .before .before .before .class-of .ensures) (c .before .before .before .write-class .ensures .some (c .if3 .taken))
+
+returns-4 : tie.Need-returns-4
+unfolding writeCanonical measuredCanonical canonicalBytes writeRow
+returns-4 c =
+    simp (ne-eqb _ _ (λ e. c .before .before .before .before .before .before .before .before .before .before .before .if1 .left (c .before .before .before .before .before .before .before .before .before .before .before .before .kind-of .ensures ∙ e)), ← c .before .before .before .before .before .before .before .before .before .before .before .before .kind-of .ensures, c .before .before .before .before .before .before .before .before .before .before .class-of .ensures, ← c .before .before .before .before .line-of .ensures, ← c .before .before .before .before .before .before .before .before .write-class .ensures .none (omega arith)) (c .before .before .write-row .ensures)
 
 pub write-spec : {M : Type 1} → statement M
 write-spec =
     tie.close
-    (tie.spec
-    kind-of-requires
-    write-lift-requires
-    same-length
-    returns
-    line-of-requires
-    write-row-requires
-    same-length-2
-    returns-2)
+    (tie.spec (search needs) (search needs) (search needs) returns (search needs) (search needs) returns-2
+    (search needs) (search needs) (search needs) (search needs) returns-3 (search needs) (search needs) (search needs)
+    returns-4)

@@ -18,8 +18,8 @@ rows-of-requires c κs = search needs
 enum-known-start : tie.Need-enum-known-start
 enum-known-start c = search needs
 
-sheet-rows-requires : tie.Need-sheet-rows-requires
-sheet-rows-requires c κs =
+sheet-sized-requires : tie.Need-sheet-sized-requires
+sheet-sized-requires c κs =
     let r = c .before .before .before .before .before in
     let a = r .before .before .before .before .before .args in
     (subst (λ x. Starts x (now (a .input))) (c .before .before .before .start .given .1) (r .rows-of .ensures), r .before .if1 .left)
@@ -35,7 +35,7 @@ same-length-2 c = search needs
 
 returns-2 : tie.Need-returns-2
 unfolding sheeted
-returns-2 c = simp (le-ltb _ _ (c .before .before .before .before .before .before .before .before .before .before .before .if1 .left)) (c .before .before .before .before .sheet-rows .ensures)
+returns-2 c = simp (le-ltb _ _ (c .before .before .before .before .before .before .before .before .before .before .before .if1 .left)) (c .before .before .before .before .sheet-sized .ensures)
 
 returns-3 : tie.Need-returns-3
 unfolding sheeted
@@ -52,7 +52,7 @@ sheet-spec =
     returns
     rows-of-requires
     enum-known-start
-    sheet-rows-requires
+    sheet-sized-requires
     enum-told
     same-length
     same-length-2

@@ -1,0 +1,467 @@
+// Straight code by class, and for a lift: the size of a row, 0 where not all of it is seen to be right, and a row written that has a
+// size and room. What is not written here is refused, or has no room: the general way says which.
+use crate::Class;
+ghost use Prim.Native.Nat.{ℕ, _<_, _≤_, _+_, _*_};
+ghost use mathlib.Core.Bool.{true};
+ghost use mathlib.Core.List.{_∷_, []};
+ghost use mathlib.Core.Path.{_≡_};
+ghost use lib.ListN.{length, drop};
+ghost use lib.Seq.{sets};
+ghost use Rattle.fields.specs.declared.Flaw.the-variants.{Right};
+ghost use Rattle.fields.specs.Binary.{word, flag, representation, indexed, canonopt};
+ghost use Rattle.fields.specs.Judge.{choice};
+ghost use Rattle.fields.specs.declared.Answer.the-variants.{Size};
+ghost use Rattle.fields.specs.Row.{measuredRow};
+ghost use Rattle.fields.specs.Run.{Wrote};
+ghost use Rattle.canonicals.specs.Class.{shapeFor, Choices, choices, Chosen, Optioned, optionedBytes, optionedSize, Seen, Put, Tried, Lifted, countedBytes, countedSize, liftedBytes, liftedSize, LiftTried};
+
+// Whether bytes of a size that was found stand within a buffer from `at` on.
+fn fits(size: usize, at: usize, room: usize) -> bool
+    ensures { λ r. ⌜ (r ≡ true → (0 < size) × (at + size ≤ room)) ⌝ }
+{
+    if 0 < size {
+        if at <= room {
+            return size <= room - at;
+        }
+    }
+    false
+}
+
+fn flag_byte(x: u32) -> u8
+    ensures { λ r. ⌜ r ≡ flag x ⌝ }
+{
+    if x == 0 { 0x00 } else { 0x01 }
+}
+
+fn rep_byte(x: u32) -> u8
+    ensures { λ r. ⌜ r ≡ representation x ⌝ }
+{
+    if x == 0 { 0x7f } else { 0x7e }
+}
+
+// A lead alone.
+fn nothing_size(row: &[u32]) -> usize
+    ensures { λ r. ⌜ (0 < r → Seen Class.Nothing (now (row .entry)) r) ⌝ }
+{
+    if row.len() == 1 { 1 } else { 0 }
+}
+
+fn nothing_row(lead: u8, row: &[u32], out: &mut [u8], at: usize) -> usize
+    ensures { λ r. ⌜ Put Class.Nothing lead (now (row .entry)) (now (out .entry)) at r (now (out .exit)) ⌝ }
+{
+    let size = nothing_size(row);
+    if fits(size, at, out.len()) {
+        out[at] = lead;
+        return size;
+    }
+    0
+}
+
+// A lead and a byte 00.
+fn zero_size(row: &[u32]) -> usize
+    ensures { λ r. ⌜ (0 < r → Seen Class.Zero (now (row .entry)) r) ⌝ }
+{
+    if row.len() == 1 { 2 } else { 0 }
+}
+
+fn zero_row(lead: u8, row: &[u32], out: &mut [u8], at: usize) -> usize
+    ensures { λ r. ⌜ Put Class.Zero lead (now (row .entry)) (now (out .entry)) at r (now (out .exit)) ⌝ }
+{
+    let size = zero_size(row);
+    if fits(size, at, out.len()) {
+        out[at] = lead;
+        out[at + 1] = 0x00;
+        return size;
+    }
+    0
+}
+
+// An index.
+fn index_size(row: &[u32]) -> usize
+    ensures { λ r. ⌜ (0 < r → Seen Class.Index (now (row .entry)) r) ⌝ }
+{
+    if row.len() == 2 {
+        return 1 + numbers::unsigned_size(row[1]);
+    }
+    0
+}
+
+fn index_row(lead: u8, row: &[u32], out: &mut [u8], at: usize) -> usize
+    ensures { λ r. ⌜ Put Class.Index lead (now (row .entry)) (now (out .entry)) at r (now (out .exit)) ⌝ }
+{
+    let size = index_size(row);
+    if fits(size, at, out.len()) {
+        out[at] = lead;
+        numbers::put_unsigned(row[1], at + 1, out);
+        return size;
+    }
+    0
+}
+
+// A byte 00 and an index.
+fn zero_index_size(row: &[u32]) -> usize
+    ensures { λ r. ⌜ (0 < r → Seen Class.ZeroIndex (now (row .entry)) r) ⌝ }
+{
+    if row.len() == 2 {
+        return 2 + numbers::unsigned_size(row[1]);
+    }
+    0
+}
+
+fn zero_index_row(lead: u8, row: &[u32], out: &mut [u8], at: usize) -> usize
+    ensures { λ r. ⌜ Put Class.ZeroIndex lead (now (row .entry)) (now (out .entry)) at r (now (out .exit)) ⌝ }
+{
+    let size = zero_index_size(row);
+    if fits(size, at, out.len()) {
+        out[at] = lead;
+        out[at + 1] = 0x00;
+        numbers::put_unsigned(row[1], at + 2, out);
+        return size;
+    }
+    0
+}
+
+// Two indices.
+fn indices_size(row: &[u32]) -> usize
+    ensures { λ r. ⌜ (0 < r → Seen Class.Indices (now (row .entry)) r) ⌝ }
+{
+    if row.len() == 3 {
+        return 1 + numbers::unsigned_size(row[1]) + numbers::unsigned_size(row[2]);
+    }
+    0
+}
+
+fn indices_row(lead: u8, row: &[u32], out: &mut [u8], at: usize) -> usize
+    ensures { λ r. ⌜ Put Class.Indices lead (now (row .entry)) (now (out .entry)) at r (now (out .exit)) ⌝ }
+{
+    let size = indices_size(row);
+    if fits(size, at, out.len()) {
+        out[at] = lead;
+        numbers::put_unsigned(row[1], at + 1, out);
+        let next = at + 1 + numbers::unsigned_size(row[1]);
+        numbers::put_unsigned(row[2], next, out);
+        return size;
+    }
+    0
+}
+
+// A flag.
+fn flag_size(row: &[u32]) -> usize
+    ensures { λ r. ⌜ (0 < r → Seen Class.Flag (now (row .entry)) r) ⌝ }
+{
+    if row.len() == 2 {
+        if row[1] < 2 {
+            return 2;
+        }
+    }
+    0
+}
+
+fn flag_row(lead: u8, row: &[u32], out: &mut [u8], at: usize) -> usize
+    ensures { λ r. ⌜ Put Class.Flag lead (now (row .entry)) (now (out .entry)) at r (now (out .exit)) ⌝ }
+{
+    let size = flag_size(row);
+    if fits(size, at, out.len()) {
+        out[at] = lead;
+        out[at + 1] = flag_byte(row[1]);
+        return size;
+    }
+    0
+}
+
+// An index and a flag.
+fn index_flag_size(row: &[u32]) -> usize
+    ensures { λ r. ⌜ (0 < r → Seen Class.IndexFlag (now (row .entry)) r) ⌝ }
+{
+    if row.len() == 3 {
+        if row[2] < 2 {
+            return 2 + numbers::unsigned_size(row[1]);
+        }
+    }
+    0
+}
+
+fn index_flag_row(lead: u8, row: &[u32], out: &mut [u8], at: usize) -> usize
+    ensures { λ r. ⌜ Put Class.IndexFlag lead (now (row .entry)) (now (out .entry)) at r (now (out .exit)) ⌝ }
+{
+    let size = index_flag_size(row);
+    if fits(size, at, out.len()) {
+        out[at] = lead;
+        numbers::put_unsigned(row[1], at + 1, out);
+        out[at + (size - 1)] = flag_byte(row[2]);
+        return size;
+    }
+    0
+}
+
+// A representation and an index.
+fn rep_index_size(row: &[u32]) -> usize
+    ensures { λ r. ⌜ (0 < r → Seen Class.RepIndex (now (row .entry)) r) ⌝ }
+{
+    if row.len() == 3 {
+        if row[1] < 2 {
+            return 2 + numbers::unsigned_size(row[2]);
+        }
+    }
+    0
+}
+
+fn rep_index_row(lead: u8, row: &[u32], out: &mut [u8], at: usize) -> usize
+    ensures { λ r. ⌜ Put Class.RepIndex lead (now (row .entry)) (now (out .entry)) at r (now (out .exit)) ⌝ }
+{
+    let size = rep_index_size(row);
+    if fits(size, at, out.len()) {
+        out[at] = lead;
+        out[at + 1] = rep_byte(row[1]);
+        numbers::put_unsigned(row[2], at + 2, out);
+        return size;
+    }
+    0
+}
+
+// Whether the option k has an index.
+fn is_indexed(k: u32) -> bool
+    ensures { λ r. ⌜ r ≡ indexed k ⌝ }
+{
+    if k == 3 {
+        return true;
+    }
+    if k == 4 {
+        return true;
+    }
+    if k == 5 {
+        return true;
+    }
+    if k == 7 {
+        return true;
+    }
+    k == 8
+}
+
+// One option.
+fn option_size(k: u32, x: u32) -> usize
+    ensures { λ r. ⌜ (0 < r → (choice (k ∷ x ∷ []) ≡ Right) × (r ≡ length (canonopt k x))) ⌝ }
+    ensures { λ r. ⌜ r ≤ 6 ⌝ }
+{
+    if k < 10 {
+        if is_indexed(k) {
+            return 1 + numbers::unsigned_size(x);
+        }
+        if x == 0 {
+            return 1;
+        }
+    }
+    0
+}
+
+fn put_option(k: u32, x: u32, out: &mut [u8], to: usize) -> usize
+    requires { ⌜ (k < 10) × (to + length (canonopt k x) ≤ length (now out)) ⌝ }
+    ensures { λ r. ⌜ Wrote (now (out .entry)) to (canonopt k x) r (now (out .exit)) ⌝ }
+{
+    out[to] = k as u8;
+    if is_indexed(k) {
+        numbers::put_unsigned(x, to + 1, out);
+        return to + 1 + numbers::unsigned_size(x);
+    }
+    to + 1
+}
+
+// `base` and the bytes of n options, whose words stand from `from` on; 0 where one is not right.
+fn options_size(row: &[u32], from: usize, n: usize, base: usize) -> usize
+    requires { ⌜ (from + n * 2 ≤ length (now row)) × (length (now row) ≤ 16384) × (base ≤ 32) ⌝ }
+    ensures { λ r. ⌜ (0 < r → Chosen n (drop from (now (row .entry))) base r) ⌝ }
+{
+    let mut at = from;
+    let mut made = base;
+    let mut left = n;
+    while 0 < left {
+        let one = option_size(row[at], row[at + 1]);
+        if one == 0 {
+            return 0;
+        }
+        made += one;
+        at += 2;
+        left -= 1;
+    }
+    made
+}
+
+fn put_options(row: &[u32], from: usize, n: usize, out: &mut [u8], base: usize) -> usize
+    requires { ⌜ (from + n * 2 ≤ length (now row)) × Choices n (drop from (now row)) × (base + length (choices n (drop from (now row))) ≤ length (now out)) ⌝ }
+    ensures { λ r. ⌜ Wrote (now (out .entry)) base (choices n (drop from (now (row .entry)))) r (now (out .exit)) ⌝ }
+{
+    let mut at = from;
+    let mut to = base;
+    let mut left = n;
+    while 0 < left {
+        to = put_option(row[at], row[at + 1], out, to);
+        at += 2;
+        left -= 1;
+    }
+    to
+}
+
+// An index and options, behind `head` bytes.
+fn optioned_size(row: &[u32], head: usize) -> usize
+    requires { ⌜ (1 ≤ head) × (head ≤ 2) ⌝ }
+    ensures { λ r. ⌜ (0 < r → Optioned (now (row .entry)) × (r ≡ head + optionedSize (now (row .entry)))) ⌝ }
+{
+    if row.len() < 3 {
+        return 0;
+    }
+    if 16384 < row.len() {
+        return 0;
+    }
+    let n = row[2] as usize;
+    if row.len() == 3 + n * 2 {
+        let base = head + numbers::unsigned_size(row[1]) + numbers::unsigned_size(row[2]);
+        return options_size(row, 3, n, base);
+    }
+    0
+}
+
+fn put_optioned(row: &[u32], out: &mut [u8], to: usize)
+    requires { ⌜ Optioned (now row) × (to + optionedSize (now row) ≤ length (now out)) ⌝ }
+    ensures { λ _. ⌜ now (out .exit) ≡ sets (now (out .entry)) to (optionedBytes (now (row .entry))) ⌝ }
+{
+    numbers::put_unsigned(row[1], to, out);
+    let second = to + numbers::unsigned_size(row[1]);
+    numbers::put_unsigned(row[2], second, out);
+    let third = second + numbers::unsigned_size(row[2]);
+    put_options(row, 3, row[2] as usize, out, third);
+}
+
+fn options_row(lead: u8, row: &[u32], out: &mut [u8], at: usize) -> usize
+    ensures { λ r. ⌜ Put Class.Options lead (now (row .entry)) (now (out .entry)) at r (now (out .exit)) ⌝ }
+{
+    let size = optioned_size(row, 1);
+    if fits(size, at, out.len()) {
+        out[at] = lead;
+        put_optioned(row, out, at + 1);
+        return size;
+    }
+    0
+}
+
+fn zero_options_row(lead: u8, row: &[u32], out: &mut [u8], at: usize) -> usize
+    ensures { λ r. ⌜ Put Class.ZeroOptions lead (now (row .entry)) (now (out .entry)) at r (now (out .exit)) ⌝ }
+{
+    let size = optioned_size(row, 2);
+    if fits(size, at, out.len()) {
+        out[at] = lead;
+        out[at + 1] = 0x00;
+        put_optioned(row, out, at + 2);
+        return size;
+    }
+    0
+}
+
+// The size of a row of a class, if all of it is seen to be right, else 0.
+pub fn class_size(class: Class, row: &[u32], pool: &[u8]) -> usize
+    ensures { λ r. ⌜ (0 < r → (lead : ℕ) → measuredRow (shapeFor class lead) (now (row .entry)) (now (pool .entry)) ≡ Size r) ⌝ }
+{
+    if 65536 < pool.len() {
+        return 0;
+    }
+    match class {
+        Class::Nothing => nothing_size(row),
+        Class::Zero => zero_size(row),
+        Class::Index => index_size(row),
+        Class::ZeroIndex => zero_index_size(row),
+        Class::Indices => indices_size(row),
+        Class::Flag => flag_size(row),
+        Class::IndexFlag => index_flag_size(row),
+        Class::RepIndex => rep_index_size(row),
+        Class::Options => optioned_size(row, 1),
+        Class::ZeroOptions => optioned_size(row, 2),
+        Class::Not => 0,
+    }
+}
+
+// A row of a class, if all of it is seen to be right and there is room; its size, or 0 where nothing was done.
+pub fn write_class(
+    class: Class,
+    lead: u8,
+    row: &[u32],
+    pool: &[u8],
+    out: &mut [u8],
+    at: usize,
+) -> usize
+    ensures { λ r. ⌜ Tried (shapeFor class lead) (now (row .entry)) (now (pool .entry)) (now (out .entry)) at r (now (out .exit)) ⌝ }
+{
+    if 65536 < pool.len() {
+        return 0;
+    }
+    match class {
+        Class::Nothing => nothing_row(lead, row, out, at),
+        Class::Zero => zero_row(lead, row, out, at),
+        Class::Index => index_row(lead, row, out, at),
+        Class::ZeroIndex => zero_index_row(lead, row, out, at),
+        Class::Indices => indices_row(lead, row, out, at),
+        Class::Flag => flag_row(lead, row, out, at),
+        Class::IndexFlag => index_flag_row(lead, row, out, at),
+        Class::RepIndex => rep_index_row(lead, row, out, at),
+        Class::Options => options_row(lead, row, out, at),
+        Class::ZeroOptions => zero_options_row(lead, row, out, at),
+        Class::Not => 0,
+    }
+}
+
+// A lift, seen in the order of its words: function, type, count and options.
+pub fn lift_size(row: &[u32], pool: &[u8]) -> usize
+    ensures { λ r. ⌜ (0 < r → Lifted (now (row .entry)) (now (pool .entry)) × (r ≡ 2 + liftedSize (now (row .entry)))) ⌝ }
+{
+    if row.len() < 4 {
+        return 0;
+    }
+    if 16384 < row.len() {
+        return 0;
+    }
+    if 65536 < pool.len() {
+        return 0;
+    }
+    let n = row[3] as usize;
+    if row.len() == 4 + n * 2 {
+        let base = 2
+            + numbers::unsigned_size(row[1])
+            + numbers::unsigned_size(row[2])
+            + numbers::unsigned_size(row[3]);
+        return options_size(row, 4, n, base);
+    }
+    0
+}
+
+// Its count and options.
+fn put_counted(row: &[u32], out: &mut [u8], to: usize) -> usize
+    requires { ⌜ (length (now row) ≡ 4 + word (now row) 3 * 2) × Choices (word (now row) 3) (drop 4 (now row)) × (to + countedSize (now row) ≤ length (now out)) ⌝ }
+    ensures { λ r. ⌜ Wrote (now (out .entry)) to (countedBytes (now (row .entry))) r (now (out .exit)) ⌝ }
+{
+    numbers::put_unsigned(row[3], to, out);
+    let next = to + numbers::unsigned_size(row[3]);
+    put_options(row, 4, row[3] as usize, out, next)
+}
+
+// Its bytes behind the two that are 00: function, options, and the type last.
+fn put_lifted(row: &[u32], out: &mut [u8], to: usize)
+    requires { ⌜ (length (now row) ≡ 4 + word (now row) 3 * 2) × Choices (word (now row) 3) (drop 4 (now row)) × (to + liftedSize (now row) ≤ length (now out)) ⌝ }
+    ensures { λ _. ⌜ now (out .exit) ≡ sets (now (out .entry)) to (liftedBytes (now (row .entry))) ⌝ }
+{
+    numbers::put_unsigned(row[1], to, out);
+    let next = to + numbers::unsigned_size(row[1]);
+    let last = put_counted(row, out, next);
+    numbers::put_unsigned(row[2], last, out);
+}
+
+// A lift, if all of it is seen to be right and there is room; its size, or 0 where nothing was done.
+pub fn lift_row(row: &[u32], pool: &[u8], out: &mut [u8], at: usize) -> usize
+    ensures { λ r. ⌜ LiftTried (now (row .entry)) (now (pool .entry)) (now (out .entry)) at r (now (out .exit)) ⌝ }
+{
+    let size = lift_size(row, pool);
+    if fits(size, at, out.len()) {
+        out[at] = 0x00;
+        out[at + 1] = 0x00;
+        put_lifted(row, out, at + 2);
+        return size;
+    }
+    0
+}
