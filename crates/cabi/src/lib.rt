@@ -5,7 +5,9 @@ use fields::Refusal;
 use sections::Phase;
 use sections::Section;
 use sections::Turned;
+ghost use mathlib.Core.Bool.{true};
 ghost use mathlib.Core.Path.{_≡_};
+ghost use lib.ListN.{length};
 ghost use Rattle.fields.specs.Read.{Few};
 ghost use Rattle.types.specs.Read.{readType};
 ghost use Rattle.imports.specs.Read.{readImport};
@@ -13,6 +15,7 @@ ghost use Rattle.sections.specs.Steps.{rowing, opening, asyncing, paraming, res
 ghost use Rattle.sheets.specs.Sheet.{sheeted};
 ghost use Rattle.cabi.specs.Read.{replyOfRead, filled, ofRead};
 ghost use Rattle.cabi.specs.Reply.{replyOf, limit};
+ghost use Rattle.cabi.specs.Ready.{Ready};
 ghost use Rattle.cabi.specs.Sheet.{written, ofSheet};
 ghost use Rattle.cabi.specs.State.{sectionOf, phaseOf, given, phaseNumber, startNumber, numbersOf, stepped, Settled, step, finished, finishes};
 
@@ -201,15 +204,73 @@ pub extern "C" fn tb_read_import(input: &[u8], grade: u32, row: &mut [u32]) -> R
     reply_to_read(imports::read(input, grade, row))
 }
 
-// A row of a section.
-#[no_mangle]
-pub extern "C" fn tb_row(state: &mut [u64; 5], row: &[u32], pool: &[u8], body: &mut [u8]) -> Reply
+// Whether five numbers are a closed section of a known family that can take an entry more, over a body of n bytes.
+fn is_ready(state: &[u64; 5], n: usize) -> bool
+    ensures { λ r. ⌜ (r ≡ true → Ready (now (state .entry)) n) ⌝ }
+{
+    if state[3] == 0 {
+        if state[4] == 0 {
+            if state[2] < 0xffff_ffff {
+                if state[1] <= n as u64 {
+                    if state[0] == 7 {
+                        return true;
+                    }
+                    if state[0] == 8 {
+                        return true;
+                    }
+                    return state[0] == 10;
+                }
+            }
+        }
+    }
+    false
+}
+
+// A row, the state taken as a Section.
+fn row_by_section(state: &mut [u64; 5], row: &[u32], pool: &[u8], body: &mut [u8]) -> Reply
     ensures { λ r. ⌜ stepped r (now (state .exit)) (now (body .exit)) ≡ step (given (now (state .entry))) (λ s. rowing s (now (row .entry)) (now (pool .entry)) (now (body .entry))) (now (state .entry)) (now (body .entry)) ⌝ }
 {
     match take_state(state) {
         Given::Is(s) => settle(s.row(row, pool, body), state),
         Given::Not => refuse(),
     }
+}
+
+// A row where the state is ready: its bytes, and used and count with them.
+fn row_when_ready(state: &mut [u64; 5], row: &[u32], pool: &[u8], body: &mut [u8]) -> Reply
+    requires { ⌜ Ready (now state) (length (now body)) ⌝ }
+    ensures { λ r. ⌜ stepped r (now (state .exit)) (now (body .exit)) ≡ step (given (now (state .entry))) (λ s. rowing s (now (row .entry)) (now (pool .entry)) (now (body .entry))) (now (state .entry)) (now (body .entry)) ⌝ }
+{
+    let family = state[0];
+    let used = state[1];
+    let count = state[2];
+    match sections::write_by(family as u32, row, pool, body, used as usize) {
+        Answer::Size(n) => {
+            let grown = used + n as u64;
+            let more = count + 1;
+            *state = [family, grown, more, 0, 0];
+            Reply {
+                number: 0,
+                words: 0,
+                value: n as u64,
+            }
+        }
+        Answer::Refused(why, n) => {
+            *state = [family, used, count, 0, 0];
+            reply_to(Answer::Refused(why, n))
+        }
+    }
+}
+
+// A row of a section.
+#[no_mangle]
+pub extern "C" fn tb_row(state: &mut [u64; 5], row: &[u32], pool: &[u8], body: &mut [u8]) -> Reply
+    ensures { λ r. ⌜ stepped r (now (state .exit)) (now (body .exit)) ≡ step (given (now (state .entry))) (λ s. rowing s (now (row .entry)) (now (pool .entry)) (now (body .entry))) (now (state .entry)) (now (body .entry)) ⌝ }
+{
+    if is_ready(state, body.len()) {
+        return row_when_ready(state, row, pool, body);
+    }
+    row_by_section(state, row, pool, body)
 }
 
 // Opens a function.

@@ -1,129 +1,107 @@
--- Straight code by class: a row that was seen to be right has its size and its bytes, and these stored are the row written.
+-- Straight code by class: a row that was seen to be right has its size, one that has a size is right and has its bytes, and these stored are
+-- the row written.
 use Prim.Native.Nat.{ℕ, zero, suc, _+_, _-_, _*_, _≤_, _<_}
 use native.Mathlib.Omega.{arith}
 use mathlib.Core.Path.{_≡_, refl, sym, ap, subst, _∙_}
 use mathlib.Core.List.{List, [], _∷_, _++_, append-nil}
 use mathlib.Core.Bool.{Bool, true, false}
-use borrow.Author.Tests.{ltb-true, lt-ltb, le-leb, eq-eqb}
+use borrow.Author.Tests.{ltb-true, lt-ltb, eq-eqb}
 use lib.Dec.{ltb}
-use lib.ListN.{length, drop, set, length-append, length-drop}
-use lib.Seq.{sets, length-sets, drop-drop}
+use lib.ListN.{length, drop, set, length-append}
+use lib.Seq.{sets}
 use Rattle.numbers.specs.Bytes as bytes
 use Rattle.numbers.specs.Bytes.{store}
 use Rattle.numbers.specs.Leb.{unsigned}
 use Rattle.numbers.specs.declared.bytes.Stored.{Stored}
-use Rattle.numbers.proofs.BytesLaws.{sets-append, store-fits}
 use Rattle.numbers.proofs.LebLaws.{size-bounds}
-use Rattle.fields.specs.declared.Answer.the-variants.{Size}
+use Rattle.fields.specs.declared.Answer.the-variants.{Size, Refused}
+use Rattle.fields.specs.declared.Field.{Field}
 use Rattle.fields.specs.declared.Field.the-variants as field
 use Rattle.fields.specs.declared.Flaw.the-variants.{Right, Wrong}
-use Rattle.fields.specs.declared.Refusal.the-variants.{Tag}
-use Rattle.fields.specs.declared.Found.{Found}
-use Rattle.fields.specs.declared.Found.the-variants.{Is}
-use Rattle.fields.specs.declared.Leaf.the-variants.{Fine}
-use Rattle.fields.specs.declared.Shape.{Shape}
+use Rattle.fields.specs.declared.Refusal.the-variants.{Tag, Room}
+use Rattle.fields.specs.declared.Found.the-variants.{Is, Not}
 use Rattle.fields.specs.Binary as binary
 use Rattle.fields.specs.Binary.{pick, word, flag, representation, indexed, canonopt}
-use Rattle.fields.specs.Judge.{wide, unused, choice, flaw, judge}
-use Rattle.fields.specs.View.{view}
-use Rattle.fields.specs.Walk.{end, walk, outs}
+use Rattle.fields.specs.Judge.{wide, below, choice, flaw}
 use Rattle.fields.specs.Run.{Wrote}
 use Rattle.fields.specs.Row.{measuredRow, rowBytes, writeRow}
-use Rattle.fields.specs.Shape.{repeated, seq, widths, rowWidth}
+use Rattle.fields.specs.Shape.{repeated, widths}
 use Rattle.fields.specs.Table.{elements}
-use Rattle.fields.specs.Write.{left, writer, stored}
+use Rattle.fields.specs.Write.{left}
+use Rattle.fields.proofs.FlawLaws.{choice-below}
 use Rattle.fields.proofs.NearLaws.{first-word, second-word}
-use Rattle.fields.proofs.RowLaws.{row-shaped}
+use Rattle.fields.proofs.WholeLaws.{accepted}
 use Rattle.fields.proofs.WroteLaws.{then, then-byte, same-size}
+use Rattle.writing.specs.Seen as writing
+use Rattle.writing.specs.Seen.{within, Rights, Tried}
+use Rattle.writing.proofs.GroupLaws as group
+use Rattle.writing.proofs.GroupLaws.{choice-element, byte-wrote, bytes-wrote, number-wrote}
+use Rattle.writing.proofs.RowLaws.{within-fits, within-not, written-answer, room-answer}
+use Rattle.writing.proofs.RowLaws.{index-at, rep-at, nothing-at, lead-seen, lead-held, two-seen, two-held, many-seen, many-held}
 use Rattle.canonicals.specs.declared.Class.{Class}
 use Rattle.canonicals.specs.declared.Class.the-variants as class
-use Rattle.canonicals.specs.Class.{shapeFor, Choices, choices, Chosen, Optioned, optionedBytes, optionedSize, Good, bytesFor, sizeFor, Seen, Put, Tried}
-use Rattle.canonicals.specs.Table.{plain, zeroed, optioned}
-use Rattle.canonicals.proofs.LiftLaws.{Part, sized-accepted}
-use Rattle.canonicals.proofs.Productions.{options-agree}
+use Rattle.canonicals.specs.Class.{shapeFor, Choices, choices, Chosen, Optioned, optionedBytes, optionedSize}
+use Rattle.canonicals.specs.Class.{Good, bytesFor, sizeFor, Seen, Put}
+use Rattle.canonicals.specs.Table.{optioned}
 
 -- ---- storing
-
-byte-wrote : (l : List ℕ) (i x : ℕ) → Wrote l i (x ∷ []) (i + 1) (set l i x)
-byte-wrote l i x = record { place = refl; content = refl }
-
-pub bytes-wrote : (l : List ℕ) (i x y : ℕ) → Wrote l i (x ∷ y ∷ []) (i + 2) (set (set l i x) (i + 1) y)
-bytes-wrote l i x y = record { place = refl; content = then-byte (byte-wrote l i x) (byte-wrote _ (i + 1) y) .content }
-
-pub number-wrote : {l m a : List ℕ} {i : ℕ} {r : Stored} → bytes.left r m ≡ store a i l → i + length a ≤ length l → Wrote l i a (i + length a) m
-number-wrote {l} {m} {a} {i} e h = record { place = refl; content = ap (λ (y : bytes.Left). y .buffer) (e ∙ store-fits a i l h) }
 
 pub put-none : {c : Class} {lead : ℕ} {row out : List ℕ} {at : ℕ} → Put c lead row out at 0 out
 put-none =
     record { none = λ e. refl; seen = λ h. absurd (omega arith); room = λ h. absurd (omega arith); content = λ h. absurd (omega arith) }
 
-module _ {lead : ℕ} {row out : List ℕ} {at r : ℕ} where
-  put-some : {c : Class} → Seen c row r → (0 < r) × (at + r ≤ length out) → {new : List ℕ} {j : ℕ} → Wrote out at (bytesFor c lead row) j new
-      → Put c lead row out at r new
-  put-some s h w = record { none = λ e. absurd (omega (arith, h .0)); seen = λ k. s; room = λ k. h .1; content = λ k. w .content }
+-- a row that was seen to be right, where its bytes have room
+module _ (out : List ℕ) (at : ℕ) {c : Class} {row : List ℕ} {r : ℕ} (s : 0 < r → Seen c row r) {b : Bool}
+    (e : b ≡ within r at (length out)) (t : b ≡ true) where
+  fit : (0 < r) × (at + r ≤ length out)
+  fit = within-fits r at (length out) (sym e ∙ t)
 
-  pub nothing-put : Seen class.Nothing row r → (0 < r) × (at + r ≤ length out) → Put class.Nothing lead row out at r (set out at lead)
-  nothing-put s h = put-some s h (byte-wrote out at lead)
+  pub put-room : Good c row × (at + sizeFor c row ≤ length out)
+  put-room = let q = s (fit .0) in (q .right, omega (arith, q .size, fit .1))
 
-  pub zero-put : Seen class.Zero row r → (0 < r) × (at + r ≤ length out) → Put class.Zero lead row out at r (set (set out at lead) (at + 1) 0x00)
-  zero-put s h = put-some s h (bytes-wrote out at lead 0x00)
+  pub put-some : (lead : ℕ) {new : List ℕ} → new ≡ sets out at (bytesFor c lead row) → Put c lead row out at r new
+  put-some lead p = record { none = λ z. absurd (omega (arith, fit .0)); seen = s; room = λ k. fit .1; content = λ k. p }
 
-  pub flag-put : Seen class.Flag row r → (0 < r) × (at + r ≤ length out) → {b : ℕ} → b ≡ flag (word row 1)
-      → Put class.Flag lead row out at r (set (set out at lead) (at + 1) b)
-  flag-put s h {b} e =
-      put-some s h (subst (λ x. Wrote out at (lead ∷ x ∷ []) (at + 2) (set (set out at lead) (at + 1) b)) e (bytes-wrote out at lead b))
+-- the bytes of the classes, one after the other
+module _ (lead : ℕ) (out : List ℕ) (to : ℕ) where
+  pub flag-wrote : (x : ℕ) {b : ℕ} → b ≡ flag x → Wrote out to (lead ∷ flag x ∷ []) (to + 2) (set (set out to lead) (to + 1) b)
+  flag-wrote x {b} e = subst (λ y. Wrote out to (lead ∷ y ∷ []) (to + 2) (set (set out to lead) (to + 1) b)) e (bytes-wrote out to lead b)
 
-  pub index-put : Seen class.Index row r → (0 < r) × (at + r ≤ length out) → {q : Stored} {new : List ℕ}
-      → bytes.left q new ≡ store (unsigned (word row 1)) (at + 1) (set out at lead) → Put class.Index lead row out at r new
-  index-put s h e =
-      let b = byte-wrote out at lead in
-      put-some s h (then-byte b (number-wrote e (omega (arith, same-size b, s .size, h .1))))
+  module _ (x : ℕ) (h : to + (1 + length (unsigned x)) ≤ length out) {q : Stored} {mid : List ℕ}
+      (e : bytes.left q mid ≡ store (unsigned x) (to + 1) (set out to lead)) where
+    pub index-wrote : Wrote out to (lead ∷ unsigned x) (to + 1 + length (unsigned x)) mid
+    index-wrote = let w = byte-wrote out to lead in then-byte w (number-wrote e (omega (arith, same-size w)))
 
-  pub zero-index-put : Seen class.ZeroIndex row r → (0 < r) × (at + r ≤ length out) → {q : Stored} {new : List ℕ}
-      → bytes.left q new ≡ store (unsigned (word row 1)) (at + 2) (set (set out at lead) (at + 1) 0x00) → Put class.ZeroIndex lead row out at r new
-  zero-index-put s h {q} {new} e =
-      let b = bytes-wrote out at lead 0x00 in
-      put-some s h (then b (number-wrote e (omega (arith, same-size b, s .size, h .1))))
+    module _ {n : ℕ} (en : n ≡ length (unsigned x)) where
+      there : Wrote out to (lead ∷ unsigned x) (to + 1 + n) mid
+      there = subst (λ k. Wrote out to (lead ∷ unsigned x) (to + 1 + k) mid) (sym en) index-wrote
 
-  pub rep-index-put : Seen class.RepIndex row r → (0 < r) × (at + r ≤ length out) → {b : ℕ} → b ≡ representation (word row 1)
-      → {q : Stored} {new : List ℕ} → bytes.left q new ≡ store (unsigned (word row 2)) (at + 2) (set (set out at lead) (at + 1) b)
-      → Put class.RepIndex lead row out at r new
-  rep-index-put s h {b} eb {q} {new} e =
-      let w = bytes-wrote out at lead b in
-      let v = then w (number-wrote e (omega (arith, same-size w, s .size, h .1))) in
-      put-some s h (subst (λ x. Wrote out at (lead ∷ x ∷ unsigned (word row 2)) (at + 2 + length (unsigned (word row 2))) new) eb v)
+      pub indices-wrote : (y : ℕ) → to + (1 + length (unsigned x) + length (unsigned y)) ≤ length out → {t : Stored} {new : List ℕ}
+          → bytes.left t new ≡ store (unsigned y) (to + 1 + n) mid
+          → Wrote out to (lead ∷ (unsigned x ++ unsigned y)) (to + 1 + n + length (unsigned y)) new
+      indices-wrote y k d = then there (number-wrote d (omega (arith, same-size there)))
 
-  pub indices-put : Seen class.Indices row r → (0 < r) × (at + r ≤ length out) → {q t : Stored} {mid new : List ℕ} {n : ℕ}
-      → bytes.left q mid ≡ store (unsigned (word row 1)) (at + 1) (set out at lead) → n ≡ length (unsigned (word row 1))
-      → bytes.left t new ≡ store (unsigned (word row 2)) (at + 1 + n) mid → Put class.Indices lead row out at r new
-  indices-put s h {q} {t} {mid} {new} {n} e en d =
-      let b = byte-wrote out at lead in
-      let v = then-byte b (number-wrote e (omega (arith, same-size b, s .size, h .1))) in
-      let f = d ∙ ap (λ k. store (unsigned (word row 2)) (at + 1 + k) mid) en in
-      put-some s h (then v (number-wrote f (omega (arith, same-size v, s .size, h .1))))
+      pub index-flag-wrote : (y : ℕ) {b : ℕ} → b ≡ flag y
+          → Wrote out to (lead ∷ (unsigned x ++ flag y ∷ [])) (to + 1 + n + 1) (set mid (to + 1 + n) b)
+      index-flag-wrote y {b} eb =
+          subst (λ z. Wrote out to (lead ∷ (unsigned x ++ z ∷ [])) (to + 1 + n + 1) (set mid (to + 1 + n) b)) eb
+          (then there (byte-wrote mid (to + 1 + n) b))
 
-  -- an index and a flag: the buffer with the index
-  module _ (s : Seen class.IndexFlag row r) (h : (0 < r) × (at + r ≤ length out)) {q : Stored} {mid : List ℕ}
-      (e : bytes.left q mid ≡ store (unsigned (word row 1)) (at + 1) (set out at lead)) where
-    pub index-wrote : Wrote out at (lead ∷ unsigned (word row 1)) (at + 1 + length (unsigned (word row 1))) mid
-    index-wrote = let w = byte-wrote out at lead in then-byte w (number-wrote e (omega (arith, same-size w, s .size, h .1)))
+  pub pair-wrote : (y x : ℕ) {b : ℕ} → b ≡ y → to + (2 + length (unsigned x)) ≤ length out → {q : Stored} {new : List ℕ}
+      → bytes.left q new ≡ store (unsigned x) (to + 2) (set (set out to lead) (to + 1) b)
+      → Wrote out to (lead ∷ y ∷ unsigned x) (to + 2 + length (unsigned x)) new
+  pair-wrote y x {b} eb h {q} {new} e =
+      let w = bytes-wrote out to lead b in
+      subst (λ z. Wrote out to (lead ∷ z ∷ unsigned x) (to + 2 + length (unsigned x)) new) eb
+      (then w (number-wrote e (omega (arith, same-size w))))
 
-    pub index-flag-put : {b : ℕ} → b ≡ flag (word row 2) → Put class.IndexFlag lead row out at r (set mid (at + (r - 1)) b)
-    index-flag-put {b} eb =
-        let j = at + 1 + length (unsigned (word row 1)) in
-        let p : j ≡ at + (r - 1) = omega (arith, s .size) in
-        let v = then index-wrote (byte-wrote mid j b) in
-        let u = subst (λ x. Wrote out at (lead ∷ (unsigned (word row 1) ++ x ∷ [])) (j + 1) (set mid j b)) eb v in
-        put-some s h (subst (λ k. Wrote out at (lead ∷ (unsigned (word row 1) ++ flag (word row 2) ∷ [])) (j + 1) (set mid k b)) p u)
+  pub options-wrote : (row : List ℕ) {new : List ℕ} → new ≡ sets (set out to lead) (to + 1) (optionedBytes row)
+      → Wrote out to (lead ∷ optionedBytes row) (to + 1 + length (optionedBytes row)) new
+  options-wrote row e = then-byte (byte-wrote out to lead) (record { place = refl; content = e })
 
-module _ {lead : ℕ} {row out : List ℕ} {at r : ℕ} where
-  pub options-put : Seen class.Options row r → (0 < r) × (at + r ≤ length out) → {new : List ℕ} → new ≡ sets (set out at lead) (at + 1) (optionedBytes row)
-      → Put class.Options lead row out at r new
-  options-put s h e = put-some s h (then-byte (byte-wrote out at lead) (record { place = refl; content = e }))
-
-  pub zero-options-put : Seen class.ZeroOptions row r → (0 < r) × (at + r ≤ length out) → {new : List ℕ}
-      → new ≡ sets (set (set out at lead) (at + 1) 0x00) (at + 2) (optionedBytes row) → Put class.ZeroOptions lead row out at r new
-  zero-options-put s h e = put-some s h (then (bytes-wrote out at lead 0x00) (record { place = refl; content = e }))
+  pub zero-options-wrote : (row : List ℕ) {new : List ℕ} → new ≡ sets (set (set out to lead) (to + 1) 0x00) (to + 2) (optionedBytes row)
+      → Wrote out to (lead ∷ 0x00 ∷ optionedBytes row) (to + 2 + length (optionedBytes row)) new
+  zero-options-wrote row e = then (bytes-wrote out to lead 0x00) (record { place = refl; content = e })
 
 -- an index, a count and options, one after the other
 pub optioned-wrote : (row out : List ℕ) (to : ℕ) {one two new : List ℕ} {n m : ℕ} {q t : Stored} {j : ℕ} → to + optionedSize row ≤ length out
@@ -135,10 +113,6 @@ optioned-wrote row out to {one} {two} {new} {n} {m} {q} {t} {j} h e en d em w =
     let f = d ∙ ap (λ k. store (unsigned (word row 2)) (to + k) one) en in
     let u = number-wrote f (omega (arith, same-size v)) in
     then v (then u (subst (λ k. Wrote two k (choices (word row 2) (drop 3 row)) j new) (λ i. to + en i + em i) w)) .content
-
-pub put-length : {c : Class} (lead : ℕ) {row : List ℕ} (old : List ℕ) {new : List ℕ} {at r : ℕ} → Put c lead row old at r new → 0 < r
-    → length new ≡ length old
-put-length {c} lead {row} old {new} {at} p h = ap length (p .content h) ∙ length-sets old at (bytesFor c lead row)
 
 -- ---- options
 
@@ -188,52 +162,40 @@ choice-at row at e =
 canonopt-at : (row : List ℕ) (at : ℕ) → canonopt (word row at) (word row (at + 1)) ≡ canonopt (word (drop at row) 0) (word (drop at row) 1)
 canonopt-at row at = λ i. canonopt (first-word row at i) (second-word row at i)
 
+-- options are right as fields are, whatever the pool
+abbrev pub one : List Field
+one = field.Choice ∷ field.Nothing ∷ []
+
+abbrev pub element : List ℕ → List ℕ
+element vs = canonopt (word vs 0) (word vs 1)
+
+pub choices-rights : (pool : List ℕ) (n : ℕ) (ws : List ℕ) → Choices n ws → Rights pool (repeated n one) ws
+unfolding Choices Rights repeated flaw wide
+choices-rights pool zero ws h = tt
+choices-rights pool (suc n) ws h = (h .0, (refl, choices-rights pool n (drop 2 ws) (h .1)))
+
+pub rights-choices : (pool : List ℕ) (n : ℕ) (ws : List ℕ) → Rights pool (repeated n one) ws → Choices n ws
+unfolding Choices Rights repeated flaw wide
+rights-choices pool zero ws h = tt
+rights-choices pool (suc n) ws h = (h .0, rights-choices pool n (drop 2 ws) (h .1 .1))
+
 -- `left` options are still to be seen
-pub record Going (row : List ℕ) (from n base left at made : ℕ) : Type 0 where
-  pub place : at + left * 2 ≡ from + n * 2
-  pub small : made + left * 6 ≤ base + n * 6
-  pub whole : (r : ℕ) → Chosen left (drop at row) made r → Chosen n (drop from row) base r
+abbrev pub Going : List ℕ → ℕ → ℕ → ℕ → ℕ → ℕ → ℕ → Type 0
+Going row from n base left at made = group.Going [] one element 6 row from n base left at made
 
-pub going-start : (row : List ℕ) (from n base : ℕ) → Going row from n base n from base
-going-start row from n base = record { place = refl; small = omega arith; whole = λ r h. h }
+module _ {row : List ℕ} {from n base left at made : ℕ} (g : Going row from n base left at made) where
+  pub going-place : at + left * 2 ≡ from + n * 2
+  unfolding widths wide
+  going-place = g .place
 
-going-on : {row : List ℕ} {from n base at made one : ℕ} (m : ℕ) → Going row from n base (suc m) at made
-    → choice (word row at ∷ word row (at + 1) ∷ []) ≡ Right → one ≡ length (canonopt (word row at) (word row (at + 1))) → one ≤ 6
-    → Going row from n base m (at + 2) (made + one)
-unfolding Choices elements
-going-on {row} {from} {n} {base} {at} {made} {one} m g e s b =
-    record {
-      place = omega (arith, g .place);
-      small = omega (arith, g .small);
-      whole = λ r c. g .whole r
-          (record {
-            right = (choice-at row at e, subst (λ l. Choices m l) (sym (drop-drop 2 at row)) (c .right));
-            size = c .size ∙ total;
-          });
-    }
-  where
-    total : made + one + length (choices m (drop (at + 2) row))
-        ≡ made + length (canonopt (word (drop at row) 0) (word (drop at row) 1) ++ choices m (drop 2 (drop at row)))
-    total =
-        omega (
-          arith,
-          s,
-          ap length (canonopt-at row at),
-          ap (λ l. length (choices m l)) (drop-drop 2 at row),
-          length-append (canonopt (word (drop at row) 0) (word (drop at row) 1)) (choices m (drop 2 (drop at row))),
-        )
+  pub going-next : 0 < left → choice (word row at ∷ word row (at + 1) ∷ []) ≡ Right
+      → {r : ℕ} → r ≡ length (canonopt (word row at) (word row (at + 1))) → r ≤ 6 → Going row from n base (left - 1) (at + 2) (made + r)
+  unfolding Rights flaw widths wide
+  going-next h e s b = group.going-next g h (choice-at row at e, (refl, tt)) (s ∙ ap length (canonopt-at row at)) b refl
 
-pub going-next : {row : List ℕ} {from n base left at made one : ℕ} → Going row from n base left at made → 0 < left
-    → choice (word row at ∷ word row (at + 1) ∷ []) ≡ Right → one ≡ length (canonopt (word row at) (word row (at + 1))) → one ≤ 6
-    → Going row from n base (left - 1) (at + 2) (made + one)
-going-next {row} {from} {n} {base} {left} {at} {made} g h =
-    let p : left ≡ suc (left - 1) = omega arith in
-    going-on (left - 1) (subst (λ k. Going row from n base k at made) p g)
-
-pub going-end : {row : List ℕ} {from n base at made : ℕ} (left : ℕ) → Going row from n base left at made → left ≤ 0 → Chosen n (drop from row) base made
-unfolding Choices elements
-going-end {row} {from} {n} {base} {at} {made} zero g h = g .whole made (record { right = tt; size = omega arith })
-going-end (suc m) g h = absurd (omega arith)
+  pub going-end : left ≤ 0 → Chosen n (drop from row) base made
+  unfolding widths wide
+  going-end h = let k = group.going-end left g h in record { right = rights-choices [] n (drop from row) (k .right); size = k .size }
 
 -- and so the row
 pub optioned-seen : (row : List ℕ) (head : ℕ) {a b r : ℕ} → length row ≤ 16384 → length row ≡ 3 + word row 2 * 2 → a ≡ length (unsigned (word row 1))
@@ -241,106 +203,37 @@ pub optioned-seen : (row : List ℕ) (head : ℕ) {a b r : ℕ} → length row �
 optioned-seen row head short width ea eb c = (record { short = short; width = width; right = c .right }, omega (arith, c .size))
 
 -- `left` options are still to be put
-pub record Putting (row : List ℕ) (from n : ℕ) (old : List ℕ) (base left at to : ℕ) (new : List ℕ) : Type 0 where
-  pub place : at + left * 2 ≡ from + n * 2
-  pub right : Choices left (drop at row)
-  pub whole : sets new to (choices left (drop at row)) ≡ sets old base (choices n (drop from row))
-  pub ends : to + length (choices left (drop at row)) ≡ base + length (choices n (drop from row))
-  pub same : length new ≡ length old
+abbrev pub Putting : List ℕ → ℕ → ℕ → List ℕ → ℕ → ℕ → ℕ → ℕ → List ℕ → Type 0
+Putting row from n old base left at to new = group.Putting [] one element row from n old base left at to new
 
 pub putting-start : (row : List ℕ) (from n : ℕ) (old : List ℕ) (base : ℕ) → Choices n (drop from row) → Putting row from n old base n from base old
-putting-start row from n old base h = record { place = refl; right = h; whole = refl; ends = refl; same = refl }
+putting-start row from n old base h = group.putting-start [] one element row from n old base (choices-rights [] n (drop from row) h)
 
--- the next option is right, and has room
-pub putting-turn : {row : List ℕ} {from n : ℕ} {old : List ℕ} {base at to : ℕ} {new : List ℕ} (left : ℕ) → Putting row from n old base left at to new → 0 < left
-    → base + length (choices n (drop from row)) ≤ length old
-    → (word row at < 10) × (to + length (canonopt (word row at) (word row (at + 1))) ≤ length new)
-unfolding Choices elements choice
-putting-turn zero p h b = absurd (omega arith)
-putting-turn {row} {from} {n} {old} {base} {at} {to} {new} (suc m) p h b = (
-  below (ltb (word (drop at row) 0) 10) refl (p .right .0),
-  omega (
-    arith,
-    b,
-    p .ends,
-    p .same,
-    ap length (canonopt-at row at),
-    length-append (canonopt (word (drop at row) 0) (word (drop at row) 1)) (choices m (drop 2 (drop at row))),
-  ),
-)
-  where
-    below : (t : Bool) → ltb (word (drop at row) 0) 10 ≡ t
-        → pick t (pick (indexed (word (drop at row) 0)) Right (unused (drop at row) 1)) (Wrong Tag 0) ≡ Right → word row at < 10
-    below true e f = omega (arith, ltb-true (word (drop at row) 0) 10 e, first-word row at)
-    below false e f = let z : _≡_ {A = ℕ} 0 1 = cc in absurd (omega arith)
+module _ {row : List ℕ} {from n : ℕ} {old : List ℕ} {base left at to : ℕ} {new : List ℕ} (p : Putting row from n old base left at to new) where
+  pub putting-place : at + left * 2 ≡ from + n * 2
+  unfolding widths wide
+  putting-place = p .place
 
-putting-on : {row : List ℕ} {from n : ℕ} {old : List ℕ} {base at to : ℕ} {new : List ℕ} (m : ℕ) → Putting row from n old base (suc m) at to new
-    → {next : ℕ} {more : List ℕ} → Wrote new to (canonopt (word row at) (word row (at + 1))) next more → Putting row from n old base m (at + 2) next more
-unfolding Choices elements
-putting-on {row} {from} {n} {old} {base} {at} {to} {new} m p {next} {more} w =
-    record {
-      place = omega (arith, p .place);
-      right = subst (λ l. Choices m l) after (p .right .1);
-      whole = ap (λ l. sets more next (choices m l)) (sym after) ∙ stores ∙ p .whole;
-      ends = omega (arith, p .ends, v .place, ap (λ l. length (choices m l)) after, length-append one (choices m (drop 2 (drop at row))));
-      same = same-size w ∙ p .same;
-    }
-  where
-    one : List ℕ
-    one = canonopt (word (drop at row) 0) (word (drop at row) 1)
+  -- the next option is right, and has room
+  pub putting-turn : 0 < left → base + length (choices n (drop from row)) ≤ length old
+      → (word row at < 10) × (to + length (canonopt (word row at) (word row (at + 1))) ≤ length new)
+  unfolding Rights flaw widths wide
+  putting-turn h b =
+      let t = group.putting-turn left p h b in
+      (omega (arith, choice-below (drop at row) (t .0 .0), first-word row at), omega (arith, t .1, ap length (canonopt-at row at)))
 
-    after : drop 2 (drop at row) ≡ drop (at + 2) row
-    after = drop-drop 2 at row
+  pub putting-next : 0 < left → {next : ℕ} {more : List ℕ} → Wrote new to (canonopt (word row at) (word row (at + 1))) next more
+      → Putting row from n old base (left - 1) (at + 2) next more
+  unfolding widths wide
+  putting-next h {next} {more} w = group.putting-next p h (subst (λ l. Wrote new to l next more) (canonopt-at row at) w) refl
 
-    v : Wrote new to one next more
-    v = subst (λ l. Wrote new to l next more) (canonopt-at row at) w
+  pub putting-end : left ≤ 0 → Wrote old base (choices n (drop from row)) to new
+  unfolding widths wide
+  putting-end h = group.putting-end left p h
 
-    stores : sets more next (choices m (drop 2 (drop at row))) ≡ sets new to (one ++ choices m (drop 2 (drop at row)))
-    stores = rw (v .content, v .place) (sets-append one (choices m (drop 2 (drop at row))) new to)
+-- ---- a row that is right has its size
 
-pub putting-next : {row : List ℕ} {from n : ℕ} {old : List ℕ} {base left at to : ℕ} {new : List ℕ} → Putting row from n old base left at to new → 0 < left
-    → {next : ℕ} {more : List ℕ} → Wrote new to (canonopt (word row at) (word row (at + 1))) next more
-    → Putting row from n old base (left - 1) (at + 2) next more
-putting-next {row} {from} {n} {old} {base} {left} {at} {to} {new} g h w =
-    let p : left ≡ suc (left - 1) = omega arith in
-    putting-on (left - 1) (subst (λ k. Putting row from n old base k at to new) p g) w
-
-pub putting-end : {row : List ℕ} {from n : ℕ} {old : List ℕ} {base at to : ℕ} {new : List ℕ} (left : ℕ) → Putting row from n old base left at to new → left ≤ 0
-    → Wrote old base (choices n (drop from row)) to new
-unfolding elements
-putting-end zero p h = record { place = omega (arith, p .ends); content = p .whole }
-putting-end (suc m) p h = absurd (omega arith)
-
--- ---- rows that were seen to be right
-
-one-word : (row : List ℕ) → length row ≡ 1 → row ≡ word row 0 ∷ []
-one-word [] h = absurd (omega arith)
-one-word (a ∷ []) h = refl
-one-word (a ∷ b ∷ l) h = absurd (omega arith)
-
-two-words : (row : List ℕ) → length row ≡ 2 → row ≡ word row 0 ∷ word row 1 ∷ []
-two-words [] h = absurd (omega arith)
-two-words (a ∷ l) h = ap (λ m. a ∷ m) (one-word l (omega arith))
-
-three-words : (row : List ℕ) → length row ≡ 3 → row ≡ word row 0 ∷ word row 1 ∷ word row 2 ∷ []
-three-words [] h = absurd (omega arith)
-three-words (a ∷ l) h = ap (λ m. a ∷ m) (two-words l (omega arith))
-
-more-words : (row : List ℕ) → 3 ≤ length row → row ≡ word row 0 ∷ word row 1 ∷ word row 2 ∷ drop 3 row
-more-words [] h = absurd (omega arith)
-more-words (a ∷ []) h = absurd (omega arith)
-more-words (a ∷ b ∷ []) h = absurd (omega arith)
-more-words (a ∷ b ∷ c ∷ l) h = refl
-
-pub optioned-length : (row : List ℕ) → length (optionedBytes row) ≡ optionedSize row
-optioned-length row =
-    omega (
-      arith,
-      length-append (unsigned (word row 1)) (unsigned (word row 2) ++ choices (word row 2) (drop 3 row)),
-      length-append (unsigned (word row 2)) (choices (word row 2) (drop 3 row)),
-    )
-
-number-size : (n : ℕ) → length (unsigned n) ≤ 5
+pub number-size : (n : ℕ) → length (unsigned n) ≤ 5
 number-size n = size-bounds 128 n .1
 
 -- an option has six bytes at most
@@ -363,257 +256,202 @@ choices-small (suc n) os =
       choices-small n (drop 2 os),
     )
 
-module _ (lead : ℕ) (pool : List ℕ) (small : length pool ≤ 65536) where
-  nothing-part : (k : ℕ) → Part (plain lead field.Nothing field.Nothing) (k ∷ []) 1 pool (lead ∷ [])
-  unfolding walk outs seq widths rowWidth judge flaw wide binary.bytes
-  nothing-part k =
-      record { accepted = record { short = omega arith; small = small; width = refl; place = 1; fine = refl; fits = omega arith }; same = refl }
+flag-at : (pool row : List ℕ) (at : ℕ) → word row at < 2 → writing.Seen pool field.Flag (drop at row) 1
+unfolding flaw binary.bytes
+flag-at pool row at h =
+    let k : word (drop at row) 0 < 2 = omega (arith, first-word row at) in
+    record { right = simp (lt-ltb _ _ k); size = refl }
 
-  zero-part : (k : ℕ) → Part (zeroed lead field.Nothing) (k ∷ []) 1 pool (lead ∷ 0x00 ∷ [])
-  unfolding walk outs seq widths rowWidth judge flaw wide binary.bytes
-  zero-part k =
-      record { accepted = record { short = omega arith; small = small; width = refl; place = 1; fine = refl; fits = omega arith }; same = refl }
+module _ (lead : ℕ) (row pool : List ℕ) (small : length pool ≤ 65536) where
+  optioned-right : (byte : Field) (m : ℕ) → wide byte ≡ 0 → ((ws : List ℕ) → flaw pool byte ws ≡ Right)
+      → m ≡ length (binary.bytes pool byte (drop 1 row)) → m ≤ 1
+      → Optioned row → measuredRow (Is (optioned lead byte)) row pool ≡ Size (1 + m + optionedSize row)
+  unfolding wide widths flaw binary.bytes
+  optioned-right byte m ez always em few h =
+      many-seen (field.Fixed lead) byte field.Index field.Choice field.Nothing field.Nothing refl ez {w = 2} refl row pool (choice-element pool)
+      (λ ws. refl) always small (h .short) (omega (arith, h .width)) (index-at pool row 1 refl refl) refl
+      (record { right = choices-rights pool (word row 2) (drop 3 row) (h .right); size = refl }) (nothing-at pool (drop (3 + word row 2 * 2) row))
+      (omega (arith, em))
+      (omega (arith, number-size (word row 1), number-size (word row 2), choices-small (word row 2) (drop 3 row), h .short, h .width))
 
-  index-part : (k x : ℕ) → Part (plain lead field.Index field.Nothing) (k ∷ x ∷ []) 1 pool (lead ∷ unsigned x)
-  unfolding walk outs seq widths rowWidth judge flaw wide binary.bytes
-  index-part k x =
-      let q : 1 + length (unsigned x) + 0 + 0 ≡ length (lead ∷ unsigned x) = omega arith in
-      record {
-        accepted = record { short = omega arith; small = small; width = refl; place = 2; fine = ap (Fine 2) q; fits = omega (arith, number-size x) };
-        same = ap (λ l. lead ∷ l) (append-nil (unsigned x));
-      }
+  class-right : (c : Class) → Good c row → measuredRow (shapeFor c lead) row pool ≡ Size (sizeFor c row)
+  unfolding shapeFor wide flaw binary.bytes
+  class-right class.Nothing h =
+      lead-seen lead field.Nothing field.Nothing row pool small (omega arith) h (nothing-at pool (drop 1 row))
+      (nothing-at pool (drop 1 row)) refl (omega arith)
+  class-right class.Zero h =
+      two-seen (field.Fixed lead) (field.Fixed 0x00) field.Nothing field.Nothing refl refl row pool (λ ws. refl) (λ ws. refl) small (omega arith) h
+      (nothing-at pool (drop 1 row)) (nothing-at pool (drop 1 row)) refl (omega arith)
+  class-right class.Index h =
+      lead-seen lead field.Index field.Nothing row pool small (omega arith) h (index-at pool row 1 refl refl) (nothing-at pool (drop 2 row))
+      (omega arith) (omega (arith, number-size (word row 1)))
+  class-right class.ZeroIndex h =
+      two-seen (field.Fixed lead) (field.Fixed 0x00) field.Index field.Nothing refl refl row pool (λ ws. refl) (λ ws. refl) small (omega arith) h
+      (index-at pool row 1 refl refl) (nothing-at pool (drop 2 row)) (omega arith) (omega (arith, number-size (word row 1)))
+  class-right class.Indices h =
+      lead-seen lead field.Index field.Index row pool small (omega arith) h (index-at pool row 1 refl refl) (index-at pool row 2 refl refl) refl
+      (omega (arith, number-size (word row 1), number-size (word row 2)))
+  class-right class.Flag h =
+      lead-seen lead field.Flag field.Nothing row pool small (omega (arith, h .0)) (h .0) (flag-at pool row 1 (h .1))
+      (nothing-at pool (drop 2 row)) refl (omega arith)
+  class-right class.IndexFlag h =
+      lead-seen lead field.Index field.Flag row pool small (omega (arith, h .0)) (h .0) (index-at pool row 1 refl refl)
+      (flag-at pool row 2 (h .1)) (omega arith) (omega (arith, number-size (word row 1)))
+  class-right class.RepIndex h =
+      lead-seen lead field.Rep field.Index row pool small (omega (arith, h .0)) (h .0) (rep-at pool row 1 refl (h .1))
+      (index-at pool row 2 refl refl) refl (omega (arith, number-size (word row 2)))
+  class-right class.Options h = optioned-right field.Nothing 0 refl (λ ws. refl) refl (omega arith) h
+  class-right class.ZeroOptions h = optioned-right (field.Fixed 0x00) 1 refl (λ ws. refl) refl (omega arith) h
+  class-right class.Not h = absurd h
 
-  zero-index-part : (k x : ℕ) → Part (zeroed lead field.Index) (k ∷ x ∷ []) 1 pool (lead ∷ 0x00 ∷ unsigned x)
-  unfolding walk outs seq widths rowWidth judge flaw wide binary.bytes
-  zero-index-part k x =
-      let q : 2 + length (unsigned x) + 0 + 0 ≡ length (lead ∷ 0x00 ∷ unsigned x) = omega arith in
-      record {
-        accepted = record { short = omega arith; small = small; width = refl; place = 2; fine = ap (Fine 2) q; fits = omega (arith, number-size x) };
-        same = ap (λ l. lead ∷ 0x00 ∷ l) (append-nil (unsigned x));
-      }
+-- ---- a row that has a size is right
 
-  indices-part : (k x y : ℕ) → Part (plain lead field.Index field.Index) (k ∷ x ∷ y ∷ []) 1 pool (lead ∷ (unsigned x ++ unsigned y))
-  unfolding walk outs seq widths rowWidth judge flaw wide binary.bytes
-  indices-part k x y =
-      let n = length-append (unsigned x) (unsigned y) in
-      let q : 1 + length (unsigned x) + length (unsigned y) + 0 ≡ length (lead ∷ (unsigned x ++ unsigned y)) = omega arith in
-      record {
-        accepted =
-            record { short = omega arith; small = small; width = refl; place = 3; fine = ap (Fine 3) q; fits = omega (arith, number-size x, number-size y) };
-        same = ap (λ l. lead ∷ (unsigned x ++ l)) (append-nil (unsigned y));
-      }
+record Held (c : Class) (lead : ℕ) (row pool : List ℕ) (n : ℕ) : Type 0 where
+  right : Good c row
+  size : n ≡ sizeFor c row
+  some : 0 < n
+  made : rowBytes (shapeFor c lead) pool row ≡ bytesFor c lead row
 
-  flag-part : (k x : ℕ) → x < 2 → Part (plain lead field.Flag field.Nothing) (k ∷ x ∷ []) 1 pool (lead ∷ flag x ∷ [])
-  unfolding walk outs seq widths rowWidth judge flaw wide binary.bytes
-  flag-part k x h =
-      record {
-        accepted = record { short = omega arith; small = small; width = refl; place = 2; fine = simp (lt-ltb _ _ h); fits = omega arith };
-        same = refl;
-      }
+-- a word that is below 2
+low-at : (row : List ℕ) (at : ℕ) → below 2 (drop at row) 0 ≡ Right → word row at < 2
+low-at row at e = go (ltb (word (drop at row) 0) 2) refl e
+  where
+    go : (b : Bool) → ltb (word (drop at row) 0) 2 ≡ b → pick b Right (Wrong Tag 0) ≡ Right → word row at < 2
+    go true p e = omega (arith, ltb-true (word (drop at row) 0) 2 p, first-word row at)
+    go false p e = let z : _≡_ {A = ℕ} 0 1 = cc in absurd (omega arith)
 
-  index-flag-part : (k x y : ℕ) → y < 2 → Part (plain lead field.Index field.Flag) (k ∷ x ∷ y ∷ []) 1 pool (lead ∷ (unsigned x ++ flag y ∷ []))
-  unfolding walk outs seq widths rowWidth judge flaw wide binary.bytes
-  index-flag-part k x y h =
-      let n = length-append (unsigned x) (flag y ∷ []) in
-      let q : 1 + length (unsigned x) + 1 + 0 ≡ length (lead ∷ (unsigned x ++ flag y ∷ [])) = omega arith in
-      record {
-        accepted =
-            record { short = omega arith; small = small; width = refl; place = 3; fine = simp (lt-ltb _ _ h) (ap (Fine 3) q); fits = omega (arith, number-size x) };
-        same = refl;
-      }
+-- the words at 1 and 2, of which fields have the first from there on
+module _ (row : List ℕ) where
+  at-1 : word (drop 1 row) 0 ≡ word row 1
+  at-1 = sym (first-word row 1)
 
-  rep-index-part : (k x y : ℕ) → x < 2
-      → Part (plain lead field.Rep field.Index) (k ∷ x ∷ y ∷ []) 1 pool (lead ∷ representation x ∷ unsigned y)
-  unfolding walk outs seq widths rowWidth judge flaw wide binary.bytes
-  rep-index-part k x y h =
-      let q : 2 + length (unsigned y) + 0 ≡ length (lead ∷ representation x ∷ unsigned y) = omega arith in
-      record {
-        accepted =
-            record { short = omega arith; small = small; width = refl; place = 3; fine = simp (lt-ltb _ _ h) (ap (Fine 3) q); fits = omega (arith, number-size y) };
-        same = simp (lt-ltb _ _ h) (ap (λ l. lead ∷ representation x ∷ l) (append-nil (unsigned y)));
-      }
+  at-2 : word (drop 2 row) 0 ≡ word row 2
+  at-2 = sym (first-word row 2)
 
-  -- options that are right, wherever they stand
-  pub choices-walk : (n : ℕ) (os : List ℕ) → Choices n os → (at made : ℕ)
-      → walk (writer pool) (seq (repeated n (field.Choice ∷ field.Nothing ∷ []) ++ field.Nothing ∷ []) end) os at made
-      ≡ Fine (at + n * 2) (made + length (choices n os))
-  unfolding walk seq repeated judge flaw wide binary.bytes Choices elements
-  choices-walk zero os h at made =
-      let p : at + 0 ≡ at + 0 * 2 = omega arith in
-      ap (λ k. Fine k (made + 0)) p
-  choices-walk (suc n) os h at made =
-      let o = canonopt (word os 0) (word os 1) in
-      let p : at + 2 + 0 + n * 2 ≡ at + suc n * 2 = omega arith in
-      let q : made + length o + 0 + length (choices n (drop 2 os)) ≡ made + length (o ++ choices n (drop 2 os)) =
-      omega (arith, length-append o (choices n (drop 2 os))) in
-      rw (h .0) (choices-walk n (drop 2 os) (h .1) (at + 2 + 0) (made + length o + 0) ∙ (λ i. Fine (p i) (q i)))
+  size-1 : length (unsigned (word (drop 1 row) 0)) ≡ length (unsigned (word row 1))
+  size-1 = ap (λ x. length (unsigned x)) at-1
 
-  record RightOptions (n : ℕ) (os : List ℕ) : Type 0 where
-    short : length os ≤ 16381
-    width : length os ≡ n * 2
-    right : Choices n os
+  size-2 : length (unsigned (word (drop 2 row) 0)) ≡ length (unsigned (word row 2))
+  size-2 = ap (λ x. length (unsigned x)) at-2
 
-  right-options : (row : List ℕ) → Optioned row → RightOptions (word row 2) (drop 3 row)
-  right-options row h =
-      record { short = omega (arith, h .short, length-drop 3 row); width = omega (arith, h .width, length-drop 3 row); right = h .right }
+module _ (lead : ℕ) (row pool : List ℕ) {n : ℕ} where
+  optioned-held : (byte : Field) → wide byte ≡ 0 → measuredRow (Is (optioned lead byte)) row pool ≡ Size n
+      → Optioned row × (n ≡ 1 + length (binary.bytes pool byte (drop 1 row)) + optionedSize row)
+      × (rowBytes (Is (optioned lead byte)) pool row ≡ lead ∷ (binary.bytes pool byte (drop 1 row) ++ optionedBytes row))
+  unfolding wide widths binary.bytes
+  optioned-held byte ez e =
+      let h = many-held (field.Fixed lead) byte field.Index field.Choice field.Nothing field.Nothing refl ez {w = 2} refl row pool
+      (choice-element pool) e in (
+        record { short = h .short; width = omega (arith, h .width); right = rights-choices pool (word row 2) (drop 3 row) (h .groups) },
+        omega (arith, h .size, size-1 row),
+        h .made
+            ∙ (λ i. lead ∷ (binary.bytes pool byte (drop 1 row)
+            ++ (unsigned (at-1 row i) ++ (unsigned (word row 2) ++ append-nil (choices (word row 2) (drop 3 row)) i)))),
+      )
 
-  options-part : (k x n : ℕ) (os : List ℕ) → RightOptions n os
-      → Part (optioned lead field.Nothing) (k ∷ x ∷ n ∷ os) 1 pool (lead ∷ (unsigned x ++ (unsigned n ++ choices n os)))
-  unfolding walk seq widths rowWidth judge flaw wide binary.bytes view
-  options-part k x n os h =
-      let l = optioned-length (k ∷ x ∷ n ∷ os) in
-      let q : 1 + length (unsigned x) + 0 + length (unsigned n) + length (choices n os) ≡ length (lead ∷ (unsigned x ++ (unsigned n ++ choices n os))) =
-      omega arith in
-      let fine = choices-walk n os (h .right) 3 (1 + length (unsigned x) + 0 + length (unsigned n)) ∙ ap (Fine (3 + n * 2)) q in
+  class-held : (c : Class) → measuredRow (shapeFor c lead) row pool ≡ Size n → Held c lead row pool n
+  unfolding shapeFor wide flaw binary.bytes
+  class-held class.Nothing e =
+      let h = lead-held lead field.Nothing field.Nothing row pool e in
+      record { right = h .width; size = h .size; some = omega (arith, h .size); made = h .made }
+  class-held class.Zero e =
+      let h = two-held (field.Fixed lead) (field.Fixed 0x00) field.Nothing field.Nothing refl refl row pool e in
+      record { right = h .width; size = h .size; some = omega (arith, h .size); made = h .made }
+  class-held class.Index e =
+      let h = lead-held lead field.Index field.Nothing row pool e in
       record {
-        accepted = record {
-          short = omega (arith, h .short);
-          small = small;
-          width = omega (arith, h .width);
-          place = 3 + n * 2;
-          fine = fine;
-          fits = omega (arith, number-size x, number-size n, choices-small n os, h .short, h .width);
-        };
-        same = options-agree lead field.Nothing refl pool (k ∷ x ∷ n ∷ os) (3 + n * 2) _ fine;
+        right = h .width;
+        size = omega (arith, h .size, size-1 row);
+        some = omega (arith, h .size);
+        made = h .made ∙ (λ i. lead ∷ append-nil (unsigned (at-1 row i)) i);
       }
-
-  zero-options-part : (k x n : ℕ) (os : List ℕ) → RightOptions n os
-      → Part (optioned lead (field.Fixed 0x00)) (k ∷ x ∷ n ∷ os) 1 pool (lead ∷ 0x00 ∷ (unsigned x ++ (unsigned n ++ choices n os)))
-  unfolding walk seq widths rowWidth judge flaw wide binary.bytes view
-  zero-options-part k x n os h =
-      let l = optioned-length (k ∷ x ∷ n ∷ os) in
-      let q : 2 + length (unsigned x) + 0 + length (unsigned n) + length (choices n os)
-      ≡ length (lead ∷ 0x00 ∷ (unsigned x ++ (unsigned n ++ choices n os))) = omega arith in
-      let fine = choices-walk n os (h .right) 3 (2 + length (unsigned x) + 0 + length (unsigned n)) ∙ ap (Fine (3 + n * 2)) q in
+  class-held class.ZeroIndex e =
+      let h = two-held (field.Fixed lead) (field.Fixed 0x00) field.Index field.Nothing refl refl row pool e in
       record {
-        accepted = record {
-          short = omega (arith, h .short);
-          small = small;
-          width = omega (arith, h .width);
-          place = 3 + n * 2;
-          fine = fine;
-          fits = omega (arith, number-size x, number-size n, choices-small n os, h .short, h .width);
-        };
-        same = options-agree lead (field.Fixed 0x00) refl pool (k ∷ x ∷ n ∷ os) (3 + n * 2) _ fine;
+        right = h .width;
+        size = omega (arith, h .size, size-1 row);
+        some = omega (arith, h .size);
+        made = h .made ∙ (λ i. lead ∷ 0x00 ∷ append-nil (unsigned (at-1 row i)) i);
       }
-
-  moved : {s : Shape} {row known bs : List ℕ} → row ≡ known → Part s known 1 pool bs → Part s row 1 pool bs
-  moved {s} {row} {known} {bs} e p = subst (λ l. Part s l 1 pool bs) (sym e) p
-
-  -- a row that is right: its shape, its bytes, and how many they are
-  record Known (c : Class) (row : List ℕ) : Type 0 where
-    shape : Shape
-    is : shapeFor c lead ≡ Is shape
-    part : Part shape row 1 pool (bytesFor c lead row)
-    size : length (bytesFor c lead row) ≡ sizeFor c row
-
-  known : (c : Class) (row : List ℕ) → Good c row → Known c row
-  unfolding shapeFor
-  known class.Nothing row h =
-      record { shape = _; is = refl; part = moved (one-word row h) (nothing-part (word row 0)); size = refl }
-  known class.Zero row h =
-      record { shape = _; is = refl; part = moved (one-word row h) (zero-part (word row 0)); size = refl }
-  known class.Index row h =
+  class-held class.Indices e =
+      let h = lead-held lead field.Index field.Index row pool e in
       record {
-        shape = _;
-        is = refl;
-        part = moved (two-words row h) (index-part (word row 0) (word row 1));
-        size = omega arith;
+        right = h .width;
+        size = omega (arith, h .size, size-1 row, size-2 row);
+        some = omega (arith, h .size);
+        made = h .made ∙ (λ i. lead ∷ (unsigned (at-1 row i) ++ unsigned (at-2 row i)));
       }
-  known class.ZeroIndex row h =
+  class-held class.Flag e =
+      let h = lead-held lead field.Flag field.Nothing row pool e in
       record {
-        shape = _;
-        is = refl;
-        part = moved (two-words row h) (zero-index-part (word row 0) (word row 1));
-        size = omega arith;
+        right = (h .width, low-at row 1 (h .first));
+        size = h .size;
+        some = omega (arith, h .size);
+        made = h .made ∙ (λ i. lead ∷ flag (at-1 row i) ∷ []);
       }
-  known class.Indices row h =
+  class-held class.IndexFlag e =
+      let h = lead-held lead field.Index field.Flag row pool e in
       record {
-        shape = _;
-        is = refl;
-        part = moved (three-words row h) (indices-part (word row 0) (word row 1) (word row 2));
-        size = omega (arith, length-append (unsigned (word row 1)) (unsigned (word row 2)));
+        right = (h .width, low-at row 2 (h .second));
+        size = omega (arith, h .size, size-1 row);
+        some = omega (arith, h .size);
+        made = h .made ∙ (λ i. lead ∷ (unsigned (at-1 row i) ++ flag (at-2 row i) ∷ []));
       }
-  known class.Flag row h =
+  class-held class.RepIndex e =
+      let h = lead-held lead field.Rep field.Index row pool e in
       record {
-        shape = _;
-        is = refl;
-        part = moved (two-words row (h .0)) (flag-part (word row 0) (word row 1) (h .1));
-        size = refl;
+        right = (h .width, low-at row 1 (h .first));
+        size = omega (arith, h .size, size-2 row);
+        some = omega (arith, h .size);
+        made = h .made ∙ (λ i. lead ∷ representation (at-1 row i) ∷ unsigned (at-2 row i));
       }
-  known class.IndexFlag row h =
-      record {
-        shape = _;
-        is = refl;
-        part = moved (three-words row (h .0)) (index-flag-part (word row 0) (word row 1) (word row 2) (h .1));
-        size = omega (arith, length-append (unsigned (word row 1)) (flag (word row 2) ∷ []));
-      }
-  known class.RepIndex row h =
-      record {
-        shape = _;
-        is = refl;
-        part = moved (three-words row (h .0)) (rep-index-part (word row 0) (word row 1) (word row 2) (h .1));
-        size = omega arith;
-      }
-  known class.Options row h =
-      record {
-        shape = _;
-        is = refl;
-        part = moved (more-words row (omega (arith, h .width))) (options-part (word row 0) (word row 1) (word row 2) (drop 3 row) (right-options row h));
-        size = omega (arith, optioned-length row);
-      }
-  known class.ZeroOptions row h =
-      record {
-        shape = _;
-        is = refl;
-        part = moved (more-words row (omega (arith, h .width))) (zero-options-part (word row 0) (word row 1) (word row 2) (drop 3 row) (right-options row h));
-        size = omega (arith, optioned-length row);
-      }
-  known class.Not row h = absurd h
+  class-held class.Options e =
+      let h = optioned-held field.Nothing refl e in
+      record { right = h .0; size = h .1; some = omega (arith, h .1); made = h .2 }
+  class-held class.ZeroOptions e =
+      let h = optioned-held (field.Fixed 0x00) refl e in
+      record { right = h .0; size = h .1; some = omega (arith, h .1); made = h .2 }
+  class-held class.Not e = let h = accepted Not row pool n e .is in let z : _≡_ {A = ℕ} 0 1 = cc in absurd (omega arith)
 
 -- ---- what straight code answers
 
-part-sized : {s : Shape} {row pool bs : List ℕ} → 0 < length row → Part s row 1 pool bs → measuredRow (Is s) row pool ≡ Size (length bs)
-part-sized {s} {row} {pool} {bs} some p =
-    row-shaped (Is s) row pool (p .accepted .short) (p .accepted .small) (λ z. omega arith) ∙ sized-accepted s row 1 pool (length bs) (p .accepted)
+-- the class found, by a match
+pub put-told : {c d : Class} → d ≡ c → (row out : List ℕ) (to : ℕ) → Good d row × (to + sizeFor d row ≤ length out)
+    → Good c row × (to + sizeFor c row ≤ length out)
+put-told e row out to h = subst (λ k. Good k row × (to + sizeFor k row ≤ length out)) e h
 
-part-written : {s : Shape} {row pool bs : List ℕ} (out : List ℕ) (at : ℕ) → 0 < length row → Part s row 1 pool bs → at + length bs ≤ length out
-    → left (Size (length bs)) (sets out at bs) ≡ writeRow (Is s) row pool out at
-unfolding writeRow rowBytes stored
-part-written out at some p h = rw (part-sized some p, p .same) (simp (le-leb _ _ h))
-
-some-words : (c : Class) (row : List ℕ) → Good c row → 0 < length row
-some-words class.Nothing row h = omega arith
-some-words class.Zero row h = omega arith
-some-words class.Index row h = omega arith
-some-words class.ZeroIndex row h = omega arith
-some-words class.Indices row h = omega arith
-some-words class.Flag row h = omega (arith, h .0)
-some-words class.IndexFlag row h = omega (arith, h .0)
-some-words class.RepIndex row h = omega (arith, h .0)
-some-words class.Options row h = omega (arith, h .width)
-some-words class.ZeroOptions row h = omega (arith, h .width)
-some-words class.Not row h = absurd h
+pub wrote-told : {c d : Class} → d ≡ c → (lead : ℕ) (row out : List ℕ) (to : ℕ) {new : List ℕ} → new ≡ sets out to (bytesFor c lead row)
+    → new ≡ sets out to (bytesFor d lead row)
+wrote-told e lead row out to p = p ∙ ap (λ k. sets out to (bytesFor k lead row)) (sym e)
 
 pub class-sized : {c d : Class} → d ≡ c → (row pool : List ℕ) {r : ℕ} → length pool ≤ 65536 → Seen c row r → (lead : ℕ)
     → measuredRow (shapeFor d lead) row pool ≡ Size r
 class-sized {c} e row pool small s lead =
-    let k = known lead pool small c row (s .right) in
-    ap (λ f. measuredRow f row pool) (ap (λ x. shapeFor x lead) e ∙ k .is) ∙ part-sized (some-words c row (s .right)) (k .part)
-    ∙ ap Size (k .size ∙ sym (s .size))
-
-pub tried-none : {found : Found} {row pool out : List ℕ} {at : ℕ} → Tried found row pool out at 0 out
-tried-none = record { none = λ e. refl; some = λ h. absurd (omega arith) }
+    ap (λ x. measuredRow (shapeFor x lead) row pool) e ∙ class-right lead row pool small c (s .right) ∙ ap Size (sym (s .size))
 
 pub tried : {c d : Class} → d ≡ c → {lead : ℕ} {row pool old new : List ℕ} {at r : ℕ} → length pool ≤ 65536 → Put c lead row old at r new
     → Tried (shapeFor d lead) row pool old at r new
-tried {c} {d} e {lead} {row} {pool} {old} {new} {at} {r} small p = record { none = p .none; some = some }
-  where
-    some : 0 < r → left (Size r) new ≡ writeRow (shapeFor d lead) row pool old at
-    some h =
-        let s = p .seen h in
-        let k = known lead pool small c row (s .right) in
-        let n : length (bytesFor c lead row) ≡ r = k .size ∙ sym (s .size) in
-        (λ i. left (Size (sym n i)) (p .content h i))
-        ∙ part-written old at (some-words c row (s .right)) (k .part) (omega (arith, p .room h))
-        ∙ ap (λ f. writeRow f row pool old at) (sym (ap (λ x. shapeFor x lead) e ∙ k .is))
+tried {c} {d} e {lead} {row} {pool} {old} {new} {at} {r} small p =
+    subst (λ x. Tried (shapeFor x lead) row pool old at r new) (sym e) (record {
+      none = p .none;
+      some = λ h.
+          let m = class-sized {c = c} refl row pool small (p .seen h) lead in
+          written-answer (shapeFor c lead) row pool m old at (p .room h) (p .content h ∙ ap (sets old at) (sym (class-held lead row pool c m .made)));
+    })
+
+-- a row that the walk found right, where its bytes have room and where not
+module _ (c : Class) (lead : ℕ) (row pool out : List ℕ) (at : ℕ) {n : ℕ} (e : measuredRow (shapeFor c lead) row pool ≡ Size n) {b : Bool}
+    (f : b ≡ within n at (length out)) where
+  held : Held c lead row pool n
+  held = class-held lead row pool c e
+
+  pub line-room : b ≡ true → Good c row × (at + sizeFor c row ≤ length out)
+  line-room t = (held .right, omega (arith, held .size, within-fits n at (length out) (sym f ∙ t) .1))
+
+  pub line-written : b ≡ true → {new : List ℕ} → new ≡ sets out at (bytesFor c lead row)
+      → left (Size n) new ≡ writeRow (shapeFor c lead) row pool out at
+  line-written t p =
+      written-answer (shapeFor c lead) row pool e out at (within-fits n at (length out) (sym f ∙ t) .1) (p ∙ ap (sets out at) (sym (held .made)))
+
+  pub line-roomless : b ≡ false → left (Refused Room n) out ≡ writeRow (shapeFor c lead) row pool out at
+  line-roomless t = room-answer (shapeFor c lead) row pool e out at (within-not n at (length out) (sym f ∙ t) (held .some))

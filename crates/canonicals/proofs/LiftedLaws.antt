@@ -1,43 +1,104 @@
--- Straight code for a lift: one that was seen to be right has its size, and its parts stored one after the other are the lift written.
+-- A lift: one that was seen to be right has its size, one that has a size is right, and its parts stored one after the other are the lift written.
 use Prim.Native.Nat.{ℕ, _+_, _*_, _≤_, _<_}
 use native.Mathlib.Omega.{arith}
 use mathlib.Core.Path.{_≡_, refl, sym, ap, subst, _∙_}
-use mathlib.Core.List.{List, [], _∷_}
-use borrow.Author.Tests.{le-leb}
-use lib.ListN.{length, drop, set, length-append, length-drop}
+use mathlib.Core.Bool.{Bool, true, false}
+use mathlib.Core.List.{List, [], _∷_, _++_, append-nil}
+use borrow.Author.Tests.{le-leb, lt-leb, leb-true, leb-false}
+use lib.Dec.{leb}
+use lib.ListN.{length, drop, set, length-append}
 use lib.Seq.{sets}
 use Rattle.numbers.specs.Bytes as bytes
 use Rattle.numbers.specs.Bytes.{store}
 use Rattle.numbers.specs.Leb.{unsigned}
 use Rattle.numbers.specs.declared.bytes.Stored.{Stored}
-use Rattle.numbers.proofs.LebLaws.{size-bounds}
-use Rattle.fields.specs.declared.Answer.the-variants.{Size}
+use Rattle.fields.specs.declared.Answer.the-variants.{Size, Refused}
+use Rattle.fields.specs.declared.Field.the-variants as field
 use Rattle.fields.specs.declared.Found.the-variants.{Is}
-use Rattle.fields.specs.declared.Leaf.the-variants.{Fine}
+use Rattle.fields.specs.declared.Refusal.the-variants.{Room}
 use Rattle.fields.specs.Binary as binary
 use Rattle.fields.specs.Binary.{word}
-use Rattle.fields.specs.Judge.{wide, flaw, judge}
-use Rattle.fields.specs.View.{view}
-use Rattle.fields.specs.Walk.{walk}
+use Rattle.fields.specs.Judge.{wide, flaw}
 use Rattle.fields.specs.Run.{Wrote}
 use Rattle.fields.specs.Row.{measuredRow}
-use Rattle.fields.specs.Shape.{seq, widths, rowWidth}
+use Rattle.fields.specs.Shape.{repeated, widths, rowWidth}
 use Rattle.fields.specs.Write.{left, stored}
-use Rattle.fields.proofs.RowLaws.{row-shaped}
+use Rattle.fields.proofs.PutLaws.{allFields}
+use Rattle.fields.proofs.TableLaws.{strings}
 use Rattle.fields.proofs.WroteLaws.{then, same-size}
-use Rattle.canonicals.specs.Class.{Choices, choices, Chosen, Lifted, countedBytes, countedSize, liftedBytes, liftedSize, LiftTried}
+use Rattle.writing.specs.Seen.{within, Rights}
+use Rattle.writing.proofs.GroupLaws.{choice-element, bytes-wrote, number-wrote}
+use Rattle.writing.proofs.RowLaws.{within-fits, within-not, strings-append, rights-first, rights-join, group-strings, Held, row-seen, row-held}
+use Rattle.canonicals.specs.Class.{Choices, choices, Chosen, Lifted, countedBytes, countedSize, liftedSize, LiftTried}
 use Rattle.canonicals.specs.Table.{liftShape, lift}
-use Rattle.canonicals.proofs.LiftLaws.{Accepted, sized-accepted}
-use Rattle.canonicals.proofs.ClassLaws.{number-wrote, bytes-wrote, choices-walk, choices-small}
-
-number-size : (n : ℕ) → length (unsigned n) ≤ 5
-number-size n = size-bounds 128 n .1
+use Rattle.canonicals.proofs.ClassLaws.{one, element, choices-rights, rights-choices, number-size, choices-small}
 
 pub lifted-seen : (row pool : List ℕ) {a b c r : ℕ} → length pool ≤ 65536 → length row ≤ 16384 → length row ≡ 4 + word row 3 * 2
     → a ≡ length (unsigned (word row 1)) → b ≡ length (unsigned (word row 2)) → c ≡ length (unsigned (word row 3))
     → Chosen (word row 3) (drop 4 row) (2 + a + b + c) r → Lifted row pool × (r ≡ 2 + liftedSize row)
 lifted-seen row pool small short width ea eb ec s =
     (record { small = small; short = short; width = width; right = s .right }, omega (arith, s .size))
+
+-- ---- a lift that is right has its size, and one that has a size is right
+
+four-words : (row : List ℕ) → 4 ≤ length row → row ≡ word row 0 ∷ word row 1 ∷ word row 2 ∷ word row 3 ∷ drop 4 row
+four-words [] h = absurd (omega arith)
+four-words (a ∷ []) h = absurd (omega arith)
+four-words (a ∷ b ∷ []) h = absurd (omega arith)
+four-words (a ∷ b ∷ c ∷ []) h = absurd (omega arith)
+four-words (a ∷ b ∷ c ∷ d ∷ l) h = refl
+
+lift-length : (pool : List ℕ) (k f t n : ℕ) (os : List ℕ)
+    → length (strings pool (allFields liftShape (k ∷ f ∷ t ∷ n ∷ os) 1) (f ∷ t ∷ n ∷ os)) ≡ 2 + liftedSize (k ∷ f ∷ t ∷ n ∷ os)
+unfolding strings binary.bytes widths wide
+lift-length pool k f t n os =
+    omega (
+      arith,
+      length-append (unsigned f) (unsigned t ++ (unsigned n ++ rest)),
+      length-append (unsigned t) (unsigned n ++ rest),
+      length-append (unsigned n) rest,
+      ap length same,
+    )
+  where
+    rest : List ℕ
+    rest = strings pool (repeated n one ++ field.Nothing ∷ []) os
+
+    same : rest ≡ choices n os
+    same = strings-append pool (repeated n one) (field.Nothing ∷ []) os ∙ append-nil _ ∙ group-strings pool one element (choice-element pool) n os
+
+lift-right : (k f t n : ℕ) (os pool : List ℕ) → Lifted (k ∷ f ∷ t ∷ n ∷ os) pool
+    → measuredRow (Is liftShape) (k ∷ f ∷ t ∷ n ∷ os) pool ≡ Size (2 + liftedSize (k ∷ f ∷ t ∷ n ∷ os))
+unfolding rowWidth widths wide Rights flaw
+lift-right k f t n os pool h =
+    row-seen liftShape pool (k ∷ f ∷ t ∷ n ∷ os) (h .small) (h .short) (omega (arith, h .width))
+    (refl, (refl, (refl, (refl, (refl, rights-join pool (repeated n one) (field.Nothing ∷ []) os (choices-rights pool n os (h .right)) (refl, tt))))))
+    (sym (lift-length pool k f t n os))
+    (omega (arith, number-size f, number-size t, number-size n, choices-small n os, h .short, h .width))
+
+pub lift-sized : (row pool : List ℕ) → Lifted row pool → measuredRow (Is liftShape) row pool ≡ Size (2 + liftedSize row)
+lift-sized row pool h =
+    let e = four-words row (omega (arith, h .width)) in
+    subst (λ r. measuredRow (Is liftShape) r pool ≡ Size (2 + liftedSize r)) (sym e)
+    (lift-right (word row 0) (word row 1) (word row 2) (word row 3) (drop 4 row) pool (subst (λ r. Lifted r pool) e h))
+
+lift-held : (row pool : List ℕ) {n : ℕ} → measuredRow (Is liftShape) row pool ≡ Size n → Lifted row pool × (n ≡ 2 + liftedSize row)
+unfolding rowWidth widths wide Rights
+lift-held row pool {n} e = go row (row-held liftShape row pool e)
+  where
+    go : (row : List ℕ) → Held liftShape row pool n → Lifted row pool × (n ≡ 2 + liftedSize row)
+    go [] h = absurd (omega (arith, h .width))
+    go (k ∷ []) h = absurd (omega (arith, h .width))
+    go (k ∷ f ∷ []) h = absurd (omega (arith, h .width))
+    go (k ∷ f ∷ t ∷ []) h = absurd (omega (arith, h .width))
+    go (k ∷ f ∷ t ∷ m ∷ os) h = (
+      record {
+        small = h .small;
+        short = h .short;
+        width = omega (arith, h .width);
+        right = rights-choices pool m os (rights-first pool (repeated m one) (field.Nothing ∷ []) os (h .right .1 .1 .1 .1 .1));
+      },
+      h .size ∙ lift-length pool k f t m os,
+    )
 
 -- ---- storing
 
@@ -47,70 +108,71 @@ pub counted-wrote : (row out : List ℕ) (to : ℕ) {one new : List ℕ} {n : �
 counted-wrote row out to {one} {new} {n} {q} {j} h e en w =
     then (number-wrote e (omega arith)) (subst (λ k. Wrote one (to + k) (choices (word row 3) (drop 4 row)) j new) en w)
 
-pub lifted-wrote : (row out : List ℕ) (to : ℕ) {one two new : List ℕ} {n : ℕ} {q t : Stored} {j : ℕ} → to + liftedSize row ≤ length out
-    → bytes.left q one ≡ store (unsigned (word row 1)) to out → n ≡ length (unsigned (word row 1)) → Wrote one (to + n) (countedBytes row) j two
-    → bytes.left t new ≡ store (unsigned (word row 2)) j two → new ≡ sets out to (liftedBytes row)
-lifted-wrote row out to {one} {two} {new} {n} {q} {t} {j} h e en w d =
-    let v = number-wrote e (omega arith) in
-    let u = subst (λ k. Wrote one (to + k) (countedBytes row) j two) en w in
-    let l = length-append (unsigned (word row 3)) (choices (word row 3) (drop 4 row)) in
-    then v (then u (number-wrote d (omega (arith, same-size v, same-size u, u .place)))) .content
-
--- ---- a lift that was seen to be right
-
-four-words : (row : List ℕ) → 4 ≤ length row → row ≡ word row 0 ∷ word row 1 ∷ word row 2 ∷ word row 3 ∷ drop 4 row
-four-words [] h = absurd (omega arith)
-four-words (a ∷ []) h = absurd (omega arith)
-four-words (a ∷ b ∷ []) h = absurd (omega arith)
-four-words (a ∷ b ∷ c ∷ []) h = absurd (omega arith)
-four-words (a ∷ b ∷ c ∷ d ∷ l) h = refl
-
-lift-accepted : (k f t n : ℕ) (os pool : List ℕ) → length pool ≤ 65536 → length os ≤ 16380 → length os ≡ n * 2 → Choices n os
-    → Accepted liftShape (k ∷ f ∷ t ∷ n ∷ os) 1 pool (2 + liftedSize (k ∷ f ∷ t ∷ n ∷ os))
-unfolding walk seq widths rowWidth judge flaw wide binary.bytes view
-lift-accepted k f t n os pool small short width right =
-    let made = 2 + length (unsigned f) + length (unsigned t) + length (unsigned n) in
-    let q : made + length (choices n os) ≡ 2 + liftedSize (k ∷ f ∷ t ∷ n ∷ os) = omega arith in
-    record {
-      short = omega arith;
-      small = small;
-      width = omega arith;
-      place = 4 + n * 2;
-      fine = choices-walk 0 pool small n os right 4 made ∙ ap (Fine (4 + n * 2)) q;
-      fits = omega (arith, number-size f, number-size t, number-size n, choices-small n os);
-    }
-
-pub lift-sized : (row pool : List ℕ) → Lifted row pool → measuredRow (Is liftShape) row pool ≡ Size (2 + liftedSize row)
-lift-sized row pool h =
-    let l = length-drop 4 row in
-    let a = lift-accepted (word row 0) (word row 1) (word row 2) (word row 3) (drop 4 row) pool (h .small) (omega (arith, h .short, h .width))
-    (omega (arith, h .width)) (h .right) in
-    row-shaped (Is liftShape) row pool (h .short) (h .small) (λ z. omega (arith, h .width))
-    ∙ sized-accepted liftShape row 1 pool (2 + liftedSize row)
-    (subst (λ r. Accepted liftShape r 1 pool (2 + liftedSize row)) (sym (four-words row (omega (arith, h .width)))) a)
-
-lift-bytes : (row : List ℕ) → 4 ≤ length row → lift (drop 1 row) ≡ 0x00 ∷ 0x00 ∷ liftedBytes row
+lift-bytes : (row : List ℕ) → 4 ≤ length row
+    → lift (drop 1 row) ≡ 0x00 ∷ 0x00 ∷ (unsigned (word row 1) ++ (countedBytes row ++ unsigned (word row 2)))
 unfolding lift
 lift-bytes row h = ap (λ r. lift (drop 1 r)) (four-words row h)
+
+-- two bytes 00 and the function, the options, the type
+module _ (row out : List ℕ) (to : ℕ) {one : List ℕ} {n : ℕ} {q : Stored} (h : to + (2 + liftedSize row) ≤ length out)
+    (e : bytes.left q one ≡ store (unsigned (word row 1)) (to + 2) (set (set out to 0x00) (to + 1) 0x00))
+    (en : n ≡ length (unsigned (word row 1))) where
+  pub function-wrote : Wrote out to (0x00 ∷ 0x00 ∷ unsigned (word row 1)) (to + 2 + n) one
+  function-wrote =
+      let w = bytes-wrote out to 0x00 0x00 in
+      subst (λ k. Wrote out to (0x00 ∷ 0x00 ∷ unsigned (word row 1)) (to + 2 + k) one) (sym en) (then w (number-wrote e (omega (arith, same-size w))))
+
+  module _ {two : List ℕ} {j : ℕ} (w : Wrote one (to + 2 + n) (countedBytes row) j two) where
+    pub lift-wrote : 4 ≤ length row → {new : List ℕ} {t : Stored} → bytes.left t new ≡ store (unsigned (word row 2)) j two
+        → Wrote out to (lift (drop 1 row)) (j + length (unsigned (word row 2))) new
+    lift-wrote long {new} d =
+        let l = length-append (unsigned (word row 3)) (choices (word row 3) (drop 4 row)) in
+        let s = same-size w in
+        let z = same-size function-wrote in
+        subst (λ b. Wrote out to b (j + length (unsigned (word row 2))) new) (sym (lift-bytes row long))
+        (then function-wrote (then w (number-wrote d (omega (arith, w .place)))))
+
+-- ---- what straight code answers
 
 pub lift-none : {row pool out : List ℕ} {at : ℕ} → LiftTried row pool out at 0 out
 lift-none = record { none = λ e. refl; some = λ h. absurd (omega arith) }
 
--- the lift from its two bytes 00 on
-module _ {row pool : List ℕ} (out : List ℕ) (at : ℕ) {r : ℕ} (s : Lifted row pool × (r ≡ 2 + liftedSize row)) (h : (0 < r) × (at + r ≤ length out)) {new : List ℕ}
-    (e : new ≡ sets (set (set out at 0x00) (at + 1) 0x00) (at + 2) (liftedBytes row)) where
-  whole : Wrote out at (0x00 ∷ 0x00 ∷ liftedBytes row) (at + 2 + length (liftedBytes row)) new
-  whole = then (bytes-wrote out at 0x00 0x00) (record { place = refl; content = e })
+-- a lift that was seen to be right, where its bytes have room
+module _ (out : List ℕ) (at : ℕ) {row pool : List ℕ} {r : ℕ} (s : 0 < r → Lifted row pool × (r ≡ 2 + liftedSize row))
+    {b : Bool} (e : b ≡ within r at (length out)) (t : b ≡ true) where
+  fit : (0 < r) × (at + r ≤ length out)
+  fit = within-fits r at (length out) (sym e ∙ t)
 
-  pub lift-length : length new ≡ length out
-  lift-length = same-size whole
+  pub lift-room : (length row ≡ 4 + word row 3 * 2) × Choices (word row 3) (drop 4 row) × (at + (2 + liftedSize row) ≤ length out)
+  lift-room = let q = s (fit .0) in (q .0 .width, q .0 .right, omega (arith, q .1, fit .1))
 
-  pub lift-tried : LiftTried row pool out at r new
+  pub lift-tried : {new : List ℕ} → new ≡ sets out at (lift (drop 1 row)) → LiftTried row pool out at r new
   unfolding stored
-  lift-tried =
-      let m = lift-sized row pool (s .0) ∙ ap Size (sym (s .1)) in
+  lift-tried p =
+      let q = s (fit .0) in
       record {
-        none = λ z. absurd (omega (arith, h .0));
-        some = λ k. rw m
-            (simp (le-leb _ _ (h .1)) (ap (left (Size r)) (whole .content ∙ ap (sets out at) (sym (lift-bytes row (omega (arith, s .0 .width)))))));
+        none = λ z. absurd (omega (arith, fit .0));
+        some = λ k. rw (lift-sized row pool (q .0) ∙ ap Size (sym (q .1))) (simp (le-leb _ _ (fit .1)) (ap (left (Size r)) p));
       }
+
+-- a lift that the walk found right, where its bytes have room and where not
+module _ (row pool out : List ℕ) (at : ℕ) {n : ℕ} (e : measuredRow (Is liftShape) row pool ≡ Size n) {b : Bool}
+    (f : b ≡ within n at (length out)) where
+  held : Lifted row pool × (n ≡ 2 + liftedSize row)
+  held = lift-held row pool e
+
+  pub held-room : b ≡ true → (length row ≡ 4 + word row 3 * 2) × Choices (word row 3) (drop 4 row) × (at + (2 + liftedSize row) ≤ length out)
+  held-room t = (held .0 .width, held .0 .right, omega (arith, held .1, within-fits n at (length out) (sym f ∙ t) .1))
+
+  pub held-written : b ≡ true → {new : List ℕ} → new ≡ sets out at (lift (drop 1 row))
+      → left (Size n) new ≡ stored (measuredRow (Is liftShape) row pool) (lift (drop 1 row)) out at
+  unfolding stored
+  held-written t p = rw e (simp (le-leb _ _ (within-fits n at (length out) (sym f ∙ t) .1)) (ap (left (Size n)) p))
+
+  pub held-roomless : b ≡ false → left (Refused Room n) out ≡ stored (measuredRow (Is liftShape) row pool) (lift (drop 1 row)) out at
+  unfolding stored
+  held-roomless t = rw e (simp (lt-leb _ _ (go (leb (at + n) (length out)) refl)))
+    where
+      go : (k : Bool) → leb (at + n) (length out) ≡ k → length out < at + n
+      go true p = absurd (within-not n at (length out) (sym f ∙ t) (omega (arith, held .1)) (leb-true (at + n) (length out) p))
+      go false p = leb-false (at + n) (length out) p

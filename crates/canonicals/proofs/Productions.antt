@@ -16,7 +16,7 @@ use Rattle.fields.proofs.TableLaws.{Agrees, All, two-bytes, many-bytes, same-el
 use Rattle.canonicals.specs.Table.{optioned, opts, table}
 
 -- an index and options, behind a lead and perhaps a byte
-pub options-agree : (lead : ℕ) (zero : Field) → wide zero ≡ 0 → (pool row : List ℕ) (e m : ℕ) → judged (optioned lead zero) pool row 1 ≡ Fine e m
+options-agree : (lead : ℕ) (zero : Field) → wide zero ≡ 0 → (pool row : List ℕ) (e m : ℕ) → judged (optioned lead zero) pool row 1 ≡ Fine e m
     → written (optioned lead zero) pool row 1 ≡ lead ∷ (bytes pool zero (drop 1 row) ++ (unsigned (word (drop 1 row) 0) ++ opts (drop 1 (drop 1 row))))
 unfolding wide bytes
 options-agree lead zero z pool row e m r =

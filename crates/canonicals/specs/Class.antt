@@ -14,7 +14,7 @@ use Rattle.fields.specs.declared.Flaw.the-variants.{Right}
 use Rattle.fields.specs.Binary.{word, flag, representation, canonopt}
 use Rattle.fields.specs.Judge.{choice}
 use Rattle.fields.specs.Table.{elements}
-use Rattle.fields.specs.Row.{measuredRow, writeRow}
+use Rattle.fields.specs.Row.{measuredRow}
 use Rattle.fields.specs.Write.{left, stored}
 use Rattle.canonicals.specs.declared.Class.{Class}
 use Rattle.canonicals.specs.declared.Class.the-variants as class
@@ -111,11 +111,6 @@ pub record Put (c : Class) (lead : ℕ) (row old : List ℕ) (at r : ℕ) (new :
   pub room : 0 < r → at + r ≤ length old
   pub content : 0 < r → new ≡ sets old at (bytesFor c lead row)
 
--- the row was written, or nothing was done
-pub record Tried (found : Found) (row pool old : List ℕ) (at r : ℕ) (new : List ℕ) : Type 0 where
-  pub none : r ≡ 0 → new ≡ old
-  pub some : 0 < r → left (Size r) new ≡ writeRow found row pool old at
-
 -- a lift, whose options stand before its type
 pub record Lifted (row pool : List ℕ) : Type 0 where
   pub small : length pool ≤ 65536
@@ -128,9 +123,6 @@ countedBytes row = unsigned (word row 3) ++ choices (word row 3) (drop 4 row)
 
 abbrev pub countedSize : List ℕ → ℕ
 countedSize row = length (unsigned (word row 3)) + length (choices (word row 3) (drop 4 row))
-
-abbrev pub liftedBytes : List ℕ → List ℕ
-liftedBytes row = unsigned (word row 1) ++ (countedBytes row ++ unsigned (word row 2))
 
 abbrev pub liftedSize : List ℕ → ℕ
 liftedSize row = length (unsigned (word row 1)) + length (unsigned (word row 2)) + countedSize row

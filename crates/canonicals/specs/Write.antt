@@ -1,12 +1,9 @@
 -- Writing a canonical row.
-use mathlib.Core.Bool.{Bool, true, false}
 use mathlib.Core.List.{List}
-use mathlib.Core.Path.{_≡_}
-use Prim.Native.Nat.{ℕ, _+_, _≤_}
+use Prim.Native.Nat.{ℕ}
 use lib.Dec.{eqb}
-use lib.ListN.{length, drop}
+use lib.ListN.{drop}
 use Rattle.fields.specs.declared.Answer.{Answer}
-use Rattle.fields.specs.declared.Answer.the-variants.{Size}
 use Rattle.fields.specs.declared.Found.{Found}
 use Rattle.fields.specs.declared.Found.the-variants.{Is}
 use Rattle.fields.specs.Binary.{pick, word}
@@ -21,12 +18,6 @@ shapeOf k = pick (eqb k 256) (Is liftShape) (shapeIn table k)
 
 unfoldable pub canonicalBytes : List ℕ → List ℕ → List ℕ
 canonicalBytes pool row = pick (eqb (word row 0) 256) (lift (drop 1 row)) (rowBytes (shapeIn table (word row 0)) pool row)
-
--- the lift is accepted, and there is room for it
-pub record LiftFits (row pool out : List ℕ) (at : ℕ) : Type 0 where
-  pub size : ℕ
-  pub accepted : measuredRow (Is liftShape) row pool ≡ Size size
-  pub fits : at + size ≤ length out
 
 unfoldable pub measuredCanonical : List ℕ → List ℕ → Answer
 measuredCanonical row pool = measuredRow (shapeOf (word row 0)) row pool

@@ -9,13 +9,12 @@ use fields::Shape;
 ghost use Prim.Native.Nat.{_%_};
 ghost use mathlib.Core.Path.{_≡_};
 ghost use lib.ListN.{drop};
-ghost use lib.Seq.{sets};
-ghost use Rattle.fields.specs.Row.{measuredRow};
-ghost use Rattle.fields.specs.Table.{shapeIn, twoOf, manyOf};
-ghost use Rattle.fields.specs.Write.{left, stored, valueOf};
+ghost use Rattle.fields.specs.Row.{measuredRow, writeRow};
+ghost use Rattle.fields.specs.Table.{shapeIn};
+ghost use Rattle.fields.specs.Write.{left, stored};
 ghost use Rattle.canonicals.specs.Table.{plain, zeroed, optioned, table, liftShape, lift};
 ghost use Rattle.canonicals.specs.Class.{shapeFor};
-ghost use Rattle.canonicals.specs.Write.{LiftFits, measuredCanonical, writeCanonical};
+ghost use Rattle.canonicals.specs.Write.{measuredCanonical, writeCanonical};
 
 // What a canonical other than lift has behind its lead.
 enum Class {
@@ -219,75 +218,33 @@ pub fn measure(row: &[u32], pool: &[u8]) -> Answer
     fields::measure_row(line_of(class, (kind % 256) as u8), row, pool)
 }
 
-// Fields without a count.
-fn plain_shape(lead: Field, zero: Field, first: Field) -> Shape
-    ensures { λ r. ⌜ r ≡ twoOf lead zero first Field.Nothing ⌝ }
-{
-    Shape {
-        lead: lead,
-        zero: zero,
-        first: first,
-        second: Field::Nothing,
-        counted: false,
-        one: Field::Nothing,
-        two: Field::Nothing,
-        last: Field::Nothing,
-    }
-}
-
-// Options alone.
-fn options_shape() -> Shape
-    ensures { λ r. ⌜ r ≡ manyOf Field.Nothing Field.Nothing Field.Nothing Field.Choice Field.Nothing Field.Nothing ⌝ }
-{
-    Shape {
-        lead: Field::Nothing,
-        zero: Field::Nothing,
-        first: Field::Nothing,
-        second: Field::Nothing,
-        counted: true,
-        one: Field::Choice,
-        two: Field::Nothing,
-        last: Field::Nothing,
-    }
-}
-
-// How many bytes were added, or what a refusal gives.
-fn value_of(a: Answer) -> usize
-    ensures { λ r. ⌜ r ≡ valueOf a ⌝ }
-{
-    match a {
-        Answer::Size(n) => n,
-        Answer::Refused(_, n) => n,
-    }
-}
-
-// The bytes of a lift that was judged: function, options, and the type last.
-fn put_lift(row: &[u32], pool: &[u8], out: &mut [u8], at: usize)
-    requires { ⌜ LiftFits (now row) (now pool) (now out) at ⌝ }
-    ensures { λ _. ⌜ now (out .exit) ≡ sets (now (out .entry)) at (lift (drop 1 (now (row .entry)))) ⌝ }
-{
-    let function = plain_shape(Field::Fixed(0x00), Field::Fixed(0x00), Field::Index);
-    let options = options_shape();
-    let kind = plain_shape(Field::Nothing, Field::Nothing, Field::Index);
-    let second = at + value_of(fields::write_shape(function, &row[..2], 1, pool, out, at));
-    let third = second + value_of(fields::write_shape(options, &row[3..], 0, pool, out, second));
-    fields::write_shape(kind, &row[2..3], 0, pool, out, third);
-}
-
-// A lift judged and written.
+// A lift judged by the walk, and put where there is room.
 fn write_lift(row: &[u32], pool: &[u8], out: &mut [u8], at: usize) -> Answer
     ensures { λ r. ⌜ left r (now (out .exit)) ≡ stored (measuredRow (Found.Is liftShape) (now (row .entry)) (now (pool .entry))) (lift (drop 1 (now (row .entry)))) (now (out .entry)) at ⌝ }
 {
     match fields::measure_row(Found::Is(lift_shape()), row, pool) {
+        Answer::Size(lifted) => {
+            if writing::fits(lifted, at, out.len()) {
+                straight::put_lift(row, out, at);
+                return Answer::Size(lifted);
+            }
+            Answer::Refused(Refusal::Room, lifted)
+        }
+        Answer::Refused(why, value) => Answer::Refused(why, value),
+    }
+}
+
+// A row of a class judged by the walk, and put where there is room.
+fn write_line(class: Class, lead: u8, row: &[u32], pool: &[u8], out: &mut [u8], at: usize) -> Answer
+    ensures { λ r. ⌜ left r (now (out .exit)) ≡ writeRow (shapeFor class lead) (now (row .entry)) (now (pool .entry)) (now (out .entry)) at ⌝ }
+{
+    match fields::measure_row(line_of(class, lead), row, pool) {
         Answer::Size(size) => {
-            if out.len() < at {
-                return Answer::Refused(Refusal::Room, size);
+            if writing::fits(size, at, out.len()) {
+                straight::put_class(class, lead, row, out, at);
+                return Answer::Size(size);
             }
-            if out.len() - at < size {
-                return Answer::Refused(Refusal::Room, size);
-            }
-            put_lift(row, pool, out, at);
-            Answer::Size(size)
+            Answer::Refused(Refusal::Room, size)
         }
         Answer::Refused(why, value) => Answer::Refused(why, value),
     }
@@ -311,5 +268,5 @@ pub fn write(row: &[u32], pool: &[u8], out: &mut [u8], at: usize) -> Answer
     if 0 < size {
         return Answer::Size(size);
     }
-    fields::write_row(line_of(class, lead), row, pool, out, at)
+    write_line(class, lead, row, pool, out, at)
 }

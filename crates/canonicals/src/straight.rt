@@ -1,31 +1,21 @@
-// Straight code by class, and for a lift: the size of a row, 0 where not all of it is seen to be right, and a row written that has a
-// size and room. What is not written here is refused, or has no room: the general way says which.
+// Straight code by class, and for a lift: the size of a row, 0 where not all of it is seen to be right; a row that is right put where
+// there is room; and both, of which 0 leaves it to the walk to say whether the row is right.
 use crate::Class;
+use fields::is_indexed;
 ghost use Prim.Native.Nat.{ℕ, _<_, _≤_, _+_, _*_};
-ghost use mathlib.Core.Bool.{true};
 ghost use mathlib.Core.List.{_∷_, []};
 ghost use mathlib.Core.Path.{_≡_};
 ghost use lib.ListN.{length, drop};
 ghost use lib.Seq.{sets};
 ghost use Rattle.fields.specs.declared.Flaw.the-variants.{Right};
-ghost use Rattle.fields.specs.Binary.{word, flag, representation, indexed, canonopt};
+ghost use Rattle.fields.specs.Binary.{word, flag, representation, canonopt};
 ghost use Rattle.fields.specs.Judge.{choice};
 ghost use Rattle.fields.specs.declared.Answer.the-variants.{Size};
 ghost use Rattle.fields.specs.Row.{measuredRow};
 ghost use Rattle.fields.specs.Run.{Wrote};
-ghost use Rattle.canonicals.specs.Class.{shapeFor, Choices, choices, Chosen, Optioned, optionedBytes, optionedSize, Seen, Put, Tried, Lifted, countedBytes, countedSize, liftedBytes, liftedSize, LiftTried};
-
-// Whether bytes of a size that was found stand within a buffer from `at` on.
-fn fits(size: usize, at: usize, room: usize) -> bool
-    ensures { λ r. ⌜ (r ≡ true → (0 < size) × (at + size ≤ room)) ⌝ }
-{
-    if 0 < size {
-        if at <= room {
-            return size <= room - at;
-        }
-    }
-    false
-}
+ghost use Rattle.writing.specs.Seen.{Tried};
+ghost use Rattle.canonicals.specs.Class.{shapeFor, Choices, choices, Chosen, Optioned, optionedBytes, optionedSize, Good, bytesFor, sizeFor, Seen, Put, Lifted, countedBytes, countedSize, liftedSize, LiftTried};
+ghost use Rattle.canonicals.specs.Table.{lift};
 
 fn flag_byte(x: u32) -> u8
     ensures { λ r. ⌜ r ≡ flag x ⌝ }
@@ -46,12 +36,19 @@ fn nothing_size(row: &[u32]) -> usize
     if row.len() == 1 { 1 } else { 0 }
 }
 
+fn put_nothing(lead: u8, out: &mut [u8], to: usize)
+    requires { ⌜ to + 1 ≤ length (now out) ⌝ }
+    ensures { λ _. ⌜ now (out .exit) ≡ sets (now (out .entry)) to (lead ∷ []) ⌝ }
+{
+    out[to] = lead;
+}
+
 fn nothing_row(lead: u8, row: &[u32], out: &mut [u8], at: usize) -> usize
     ensures { λ r. ⌜ Put Class.Nothing lead (now (row .entry)) (now (out .entry)) at r (now (out .exit)) ⌝ }
 {
     let size = nothing_size(row);
-    if fits(size, at, out.len()) {
-        out[at] = lead;
+    if writing::fits(size, at, out.len()) {
+        put_nothing(lead, out, at);
         return size;
     }
     0
@@ -64,13 +61,20 @@ fn zero_size(row: &[u32]) -> usize
     if row.len() == 1 { 2 } else { 0 }
 }
 
+fn put_zero(lead: u8, out: &mut [u8], to: usize)
+    requires { ⌜ to + 2 ≤ length (now out) ⌝ }
+    ensures { λ _. ⌜ now (out .exit) ≡ sets (now (out .entry)) to (lead ∷ 0x00 ∷ []) ⌝ }
+{
+    out[to] = lead;
+    out[to + 1] = 0x00;
+}
+
 fn zero_row(lead: u8, row: &[u32], out: &mut [u8], at: usize) -> usize
     ensures { λ r. ⌜ Put Class.Zero lead (now (row .entry)) (now (out .entry)) at r (now (out .exit)) ⌝ }
 {
     let size = zero_size(row);
-    if fits(size, at, out.len()) {
-        out[at] = lead;
-        out[at + 1] = 0x00;
+    if writing::fits(size, at, out.len()) {
+        put_zero(lead, out, at);
         return size;
     }
     0
@@ -86,13 +90,20 @@ fn index_size(row: &[u32]) -> usize
     0
 }
 
+fn put_index(lead: u8, row: &[u32], out: &mut [u8], to: usize)
+    requires { ⌜ Good Class.Index (now row) × (to + sizeFor Class.Index (now row) ≤ length (now out)) ⌝ }
+    ensures { λ _. ⌜ now (out .exit) ≡ sets (now (out .entry)) to (bytesFor Class.Index lead (now (row .entry))) ⌝ }
+{
+    out[to] = lead;
+    numbers::put_unsigned(row[1], to + 1, out);
+}
+
 fn index_row(lead: u8, row: &[u32], out: &mut [u8], at: usize) -> usize
     ensures { λ r. ⌜ Put Class.Index lead (now (row .entry)) (now (out .entry)) at r (now (out .exit)) ⌝ }
 {
     let size = index_size(row);
-    if fits(size, at, out.len()) {
-        out[at] = lead;
-        numbers::put_unsigned(row[1], at + 1, out);
+    if writing::fits(size, at, out.len()) {
+        put_index(lead, row, out, at);
         return size;
     }
     0
@@ -108,14 +119,21 @@ fn zero_index_size(row: &[u32]) -> usize
     0
 }
 
+fn put_zero_index(lead: u8, row: &[u32], out: &mut [u8], to: usize)
+    requires { ⌜ Good Class.ZeroIndex (now row) × (to + sizeFor Class.ZeroIndex (now row) ≤ length (now out)) ⌝ }
+    ensures { λ _. ⌜ now (out .exit) ≡ sets (now (out .entry)) to (bytesFor Class.ZeroIndex lead (now (row .entry))) ⌝ }
+{
+    out[to] = lead;
+    out[to + 1] = 0x00;
+    numbers::put_unsigned(row[1], to + 2, out);
+}
+
 fn zero_index_row(lead: u8, row: &[u32], out: &mut [u8], at: usize) -> usize
     ensures { λ r. ⌜ Put Class.ZeroIndex lead (now (row .entry)) (now (out .entry)) at r (now (out .exit)) ⌝ }
 {
     let size = zero_index_size(row);
-    if fits(size, at, out.len()) {
-        out[at] = lead;
-        out[at + 1] = 0x00;
-        numbers::put_unsigned(row[1], at + 2, out);
+    if writing::fits(size, at, out.len()) {
+        put_zero_index(lead, row, out, at);
         return size;
     }
     0
@@ -131,15 +149,22 @@ fn indices_size(row: &[u32]) -> usize
     0
 }
 
+fn put_indices(lead: u8, row: &[u32], out: &mut [u8], to: usize)
+    requires { ⌜ Good Class.Indices (now row) × (to + sizeFor Class.Indices (now row) ≤ length (now out)) ⌝ }
+    ensures { λ _. ⌜ now (out .exit) ≡ sets (now (out .entry)) to (bytesFor Class.Indices lead (now (row .entry))) ⌝ }
+{
+    out[to] = lead;
+    numbers::put_unsigned(row[1], to + 1, out);
+    let next = to + 1 + numbers::unsigned_size(row[1]);
+    numbers::put_unsigned(row[2], next, out);
+}
+
 fn indices_row(lead: u8, row: &[u32], out: &mut [u8], at: usize) -> usize
     ensures { λ r. ⌜ Put Class.Indices lead (now (row .entry)) (now (out .entry)) at r (now (out .exit)) ⌝ }
 {
     let size = indices_size(row);
-    if fits(size, at, out.len()) {
-        out[at] = lead;
-        numbers::put_unsigned(row[1], at + 1, out);
-        let next = at + 1 + numbers::unsigned_size(row[1]);
-        numbers::put_unsigned(row[2], next, out);
+    if writing::fits(size, at, out.len()) {
+        put_indices(lead, row, out, at);
         return size;
     }
     0
@@ -157,13 +182,20 @@ fn flag_size(row: &[u32]) -> usize
     0
 }
 
+fn put_flag(lead: u8, row: &[u32], out: &mut [u8], to: usize)
+    requires { ⌜ Good Class.Flag (now row) × (to + sizeFor Class.Flag (now row) ≤ length (now out)) ⌝ }
+    ensures { λ _. ⌜ now (out .exit) ≡ sets (now (out .entry)) to (bytesFor Class.Flag lead (now (row .entry))) ⌝ }
+{
+    out[to] = lead;
+    out[to + 1] = flag_byte(row[1]);
+}
+
 fn flag_row(lead: u8, row: &[u32], out: &mut [u8], at: usize) -> usize
     ensures { λ r. ⌜ Put Class.Flag lead (now (row .entry)) (now (out .entry)) at r (now (out .exit)) ⌝ }
 {
     let size = flag_size(row);
-    if fits(size, at, out.len()) {
-        out[at] = lead;
-        out[at + 1] = flag_byte(row[1]);
+    if writing::fits(size, at, out.len()) {
+        put_flag(lead, row, out, at);
         return size;
     }
     0
@@ -181,14 +213,22 @@ fn index_flag_size(row: &[u32]) -> usize
     0
 }
 
+fn put_index_flag(lead: u8, row: &[u32], out: &mut [u8], to: usize)
+    requires { ⌜ Good Class.IndexFlag (now row) × (to + sizeFor Class.IndexFlag (now row) ≤ length (now out)) ⌝ }
+    ensures { λ _. ⌜ now (out .exit) ≡ sets (now (out .entry)) to (bytesFor Class.IndexFlag lead (now (row .entry))) ⌝ }
+{
+    out[to] = lead;
+    numbers::put_unsigned(row[1], to + 1, out);
+    let next = to + 1 + numbers::unsigned_size(row[1]);
+    out[next] = flag_byte(row[2]);
+}
+
 fn index_flag_row(lead: u8, row: &[u32], out: &mut [u8], at: usize) -> usize
     ensures { λ r. ⌜ Put Class.IndexFlag lead (now (row .entry)) (now (out .entry)) at r (now (out .exit)) ⌝ }
 {
     let size = index_flag_size(row);
-    if fits(size, at, out.len()) {
-        out[at] = lead;
-        numbers::put_unsigned(row[1], at + 1, out);
-        out[at + (size - 1)] = flag_byte(row[2]);
+    if writing::fits(size, at, out.len()) {
+        put_index_flag(lead, row, out, at);
         return size;
     }
     0
@@ -206,36 +246,24 @@ fn rep_index_size(row: &[u32]) -> usize
     0
 }
 
+fn put_rep_index(lead: u8, row: &[u32], out: &mut [u8], to: usize)
+    requires { ⌜ Good Class.RepIndex (now row) × (to + sizeFor Class.RepIndex (now row) ≤ length (now out)) ⌝ }
+    ensures { λ _. ⌜ now (out .exit) ≡ sets (now (out .entry)) to (bytesFor Class.RepIndex lead (now (row .entry))) ⌝ }
+{
+    out[to] = lead;
+    out[to + 1] = rep_byte(row[1]);
+    numbers::put_unsigned(row[2], to + 2, out);
+}
+
 fn rep_index_row(lead: u8, row: &[u32], out: &mut [u8], at: usize) -> usize
     ensures { λ r. ⌜ Put Class.RepIndex lead (now (row .entry)) (now (out .entry)) at r (now (out .exit)) ⌝ }
 {
     let size = rep_index_size(row);
-    if fits(size, at, out.len()) {
-        out[at] = lead;
-        out[at + 1] = rep_byte(row[1]);
-        numbers::put_unsigned(row[2], at + 2, out);
+    if writing::fits(size, at, out.len()) {
+        put_rep_index(lead, row, out, at);
         return size;
     }
     0
-}
-
-// Whether the option k has an index.
-fn is_indexed(k: u32) -> bool
-    ensures { λ r. ⌜ r ≡ indexed k ⌝ }
-{
-    if k == 3 {
-        return true;
-    }
-    if k == 4 {
-        return true;
-    }
-    if k == 5 {
-        return true;
-    }
-    if k == 7 {
-        return true;
-    }
-    k == 8
 }
 
 // One option.
@@ -331,26 +359,40 @@ fn put_optioned(row: &[u32], out: &mut [u8], to: usize)
     put_options(row, 3, row[2] as usize, out, third);
 }
 
+fn put_lead_options(lead: u8, row: &[u32], out: &mut [u8], to: usize)
+    requires { ⌜ Good Class.Options (now row) × (to + sizeFor Class.Options (now row) ≤ length (now out)) ⌝ }
+    ensures { λ _. ⌜ now (out .exit) ≡ sets (now (out .entry)) to (bytesFor Class.Options lead (now (row .entry))) ⌝ }
+{
+    out[to] = lead;
+    put_optioned(row, out, to + 1);
+}
+
 fn options_row(lead: u8, row: &[u32], out: &mut [u8], at: usize) -> usize
     ensures { λ r. ⌜ Put Class.Options lead (now (row .entry)) (now (out .entry)) at r (now (out .exit)) ⌝ }
 {
     let size = optioned_size(row, 1);
-    if fits(size, at, out.len()) {
-        out[at] = lead;
-        put_optioned(row, out, at + 1);
+    if writing::fits(size, at, out.len()) {
+        put_lead_options(lead, row, out, at);
         return size;
     }
     0
+}
+
+fn put_zero_options(lead: u8, row: &[u32], out: &mut [u8], to: usize)
+    requires { ⌜ Good Class.ZeroOptions (now row) × (to + sizeFor Class.ZeroOptions (now row) ≤ length (now out)) ⌝ }
+    ensures { λ _. ⌜ now (out .exit) ≡ sets (now (out .entry)) to (bytesFor Class.ZeroOptions lead (now (row .entry))) ⌝ }
+{
+    out[to] = lead;
+    out[to + 1] = 0x00;
+    put_optioned(row, out, to + 2);
 }
 
 fn zero_options_row(lead: u8, row: &[u32], out: &mut [u8], at: usize) -> usize
     ensures { λ r. ⌜ Put Class.ZeroOptions lead (now (row .entry)) (now (out .entry)) at r (now (out .exit)) ⌝ }
 {
     let size = optioned_size(row, 2);
-    if fits(size, at, out.len()) {
-        out[at] = lead;
-        out[at + 1] = 0x00;
-        put_optioned(row, out, at + 2);
+    if writing::fits(size, at, out.len()) {
+        put_zero_options(lead, row, out, at);
         return size;
     }
     0
@@ -375,6 +417,26 @@ pub fn class_size(class: Class, row: &[u32], pool: &[u8]) -> usize
         Class::Options => optioned_size(row, 1),
         Class::ZeroOptions => optioned_size(row, 2),
         Class::Not => 0,
+    }
+}
+
+// A row of a class that is right and has room.
+pub fn put_class(class: Class, lead: u8, row: &[u32], out: &mut [u8], to: usize)
+    requires { ⌜ Good class (now row) × (to + sizeFor class (now row) ≤ length (now out)) ⌝ }
+    ensures { λ _. ⌜ now (out .exit) ≡ sets (now (out .entry)) to (bytesFor class lead (now (row .entry))) ⌝ }
+{
+    match class {
+        Class::Nothing => put_nothing(lead, out, to),
+        Class::Zero => put_zero(lead, out, to),
+        Class::Index => put_index(lead, row, out, to),
+        Class::ZeroIndex => put_zero_index(lead, row, out, to),
+        Class::Indices => put_indices(lead, row, out, to),
+        Class::Flag => put_flag(lead, row, out, to),
+        Class::IndexFlag => put_index_flag(lead, row, out, to),
+        Class::RepIndex => put_rep_index(lead, row, out, to),
+        Class::Options => put_lead_options(lead, row, out, to),
+        Class::ZeroOptions => put_zero_options(lead, row, out, to),
+        Class::Not => {}
     }
 }
 
@@ -441,13 +503,15 @@ fn put_counted(row: &[u32], out: &mut [u8], to: usize) -> usize
     put_options(row, 4, row[3] as usize, out, next)
 }
 
-// Its bytes behind the two that are 00: function, options, and the type last.
-fn put_lifted(row: &[u32], out: &mut [u8], to: usize)
-    requires { ⌜ (length (now row) ≡ 4 + word (now row) 3 * 2) × Choices (word (now row) 3) (drop 4 (now row)) × (to + liftedSize (now row) ≤ length (now out)) ⌝ }
-    ensures { λ _. ⌜ now (out .exit) ≡ sets (now (out .entry)) to (liftedBytes (now (row .entry))) ⌝ }
+// A lift that is right and has room: two bytes 00, function, options, and the type last.
+pub fn put_lift(row: &[u32], out: &mut [u8], to: usize)
+    requires { ⌜ (length (now row) ≡ 4 + word (now row) 3 * 2) × Choices (word (now row) 3) (drop 4 (now row)) × (to + (2 + liftedSize (now row)) ≤ length (now out)) ⌝ }
+    ensures { λ _. ⌜ now (out .exit) ≡ sets (now (out .entry)) to (lift (drop 1 (now (row .entry)))) ⌝ }
 {
-    numbers::put_unsigned(row[1], to, out);
-    let next = to + numbers::unsigned_size(row[1]);
+    out[to] = 0x00;
+    out[to + 1] = 0x00;
+    numbers::put_unsigned(row[1], to + 2, out);
+    let next = to + 2 + numbers::unsigned_size(row[1]);
     let last = put_counted(row, out, next);
     numbers::put_unsigned(row[2], last, out);
 }
@@ -457,10 +521,8 @@ pub fn lift_row(row: &[u32], pool: &[u8], out: &mut [u8], at: usize) -> usize
     ensures { λ r. ⌜ LiftTried (now (row .entry)) (now (pool .entry)) (now (out .entry)) at r (now (out .exit)) ⌝ }
 {
     let size = lift_size(row, pool);
-    if fits(size, at, out.len()) {
-        out[at] = 0x00;
-        out[at + 1] = 0x00;
-        put_lifted(row, out, at + 2);
+    if writing::fits(size, at, out.len()) {
+        put_lift(row, out, at);
         return size;
     }
     0

@@ -10,7 +10,7 @@ use lib.Dec.{eqb, ltb, leb}
 use lib.ListN.{length, getD, take, drop, length-append}
 use lib.Seq.{sets, length-sets}
 use Rattle.numbers.specs.Bytes as bytes
-use Rattle.numbers.specs.Bytes.{store}
+use Rattle.numbers.specs.Bytes.{store, partOf}
 use Rattle.numbers.specs.Leb.{unsigned, signed}
 use Rattle.numbers.specs.Numbers as numbers
 use Rattle.numbers.specs.declared.bytes.Stored.the-variants as held
@@ -28,12 +28,11 @@ use Rattle.fields.specs.declared.Refusal.{Refusal}
 use Rattle.fields.specs.declared.Refusal.the-variants as refusal
 use Rattle.fields.specs.declared.Shape.{Shape}
 use Rattle.fields.specs.declared.form.Form.the-variants as form
-use Rattle.fields.specs.Binary.{pick, word}
+use Rattle.fields.specs.Binary.{pick, word, valtype}
 use Rattle.fields.specs.Fill.{fill}
 use Rattle.fields.specs.Form.{foundIn}
 use Rattle.fields.specs.Judge.{wide}
 use Rattle.fields.specs.Read.{LeftRow, leftRow, reader, scanned, filled, roomed, readFound, readItem}
-use Rattle.fields.specs.Row.{measuredRow, rowBytes, writeRow}
 use Rattle.fields.specs.Scan.{scan}
 use Rattle.fields.specs.Shape.{plan}
 use Rattle.fields.specs.View.{view}
@@ -44,6 +43,7 @@ use Rattle.fields.proofs.FilledLaws.{fill-length}
 use Rattle.fields.proofs.ScanLaws.{Within, scan-within}
 use Rattle.fields.proofs.WholeLaws.{accepted, size-is-length}
 use Rattle.types.specs.Read.{readType}
+use Rattle.types.specs.Write as types
 use Rattle.types.specs.Write.{writeType}
 use Rattle.imports.specs.Read.{readImport}
 use Rattle.imports.specs.Write.{writeImport}
@@ -132,13 +132,6 @@ unfolding writeShape
 writes-shape s row start pool out at =
     writes (measured s row start pool) (written s pool row start) out at
     (λ size e. size-is-length (measured-sized s row start pool refl size e))
-
-writes-row : (f : Found) (row pool out : List ℕ) (at : ℕ) → Writes at out (writeRow f row pool out at)
-unfolding writeRow rowBytes
-writes-row f row pool out at = writes (measuredRow f row pool) (rowBytes f pool row) out at long
-  where
-    long : (size : ℕ) → measuredRow f row pool ≡ Size size → size ≡ length (rowBytes f pool row)
-    long size e = let a = accepted f row pool size e in rw (a .is) (size-is-length (a .sized))
 
 writes-family : (family : ℕ) (row pool out : List ℕ) (at : ℕ) → Writes at out (writeFamily family row pool out at)
 writes-family family row pool out at =
@@ -490,14 +483,15 @@ changes-nothing-else =
       copy = stores;
       put-unsigned = λ n. stores (unsigned n);
       put-signed = λ n. stores (signed n);
-      write-shape = writes-shape;
-      write-row = writes-row;
-      write-form = λ f. writes-row (foundIn f);
-      write-import-form = writes-row (foundIn form.Import);
       read-item = reads-item;
       read-form = λ f. reads-item (foundIn f);
       read-import-form = reads-item (foundIn form.Import);
+      put-value = λ tag x. stores (valtype tag x);
+      put-name = λ pool start size. stores (unsigned size ++ partOf pool start size);
       write-type = writes-type;
+      write-async = λ a out at. writes-shape types.asyncShape (a ∷ []) 0 [] out at;
+      write-params = λ first words pool out at. writes-shape (types.paramsShape first) words 0 pool out at;
+      write-result = λ tag x out at. writes-shape types.resultShape (tag ∷ x ∷ []) 0 [] out at;
       write-import = writes-import;
       write-canonical = writes-canonical;
       read-type = reads-type;

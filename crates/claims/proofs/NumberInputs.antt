@@ -2,6 +2,7 @@
 use Prim.Native.Nat.{ℕ, _+_, _≤_}
 use native.Mathlib.Omega.{arith}
 use mathlib.Core.Path.{_≡_}
+use mathlib.Core.Bool.{Bool, true}
 use mathlib.Core.List.{List, [], _∷_, _++_}
 use borrow.Author.Tests.{lt-ltb, le-ltb}
 use lib.ListN.{length, take, replicate, length-take, length-replicate}
@@ -62,6 +63,13 @@ copies = (0 ∷ [], 0, room) ∷ (0 ∷ [], 0, []) ∷ []
 abbrev pub puts : List (ℕ × ℕ × List ℕ)
 puts = (0, 0, room) ∷ (0, 0, []) ∷ []
 
+-- a V, and a name, with room and without
+abbrev pub values : List (ℕ × ℕ × ℕ × List ℕ)
+values = (0, 0, 0, room) ∷ (0, 0, 0, []) ∷ []
+
+abbrev pub names : List (List ℕ × ℕ × ℕ × ℕ × List ℕ)
+names = ([], 0, 0, 0, room) ∷ ([], 0, 0, 0, []) ∷ []
+
 -- OK, CUT, NUMBER: a number that is not in the shortest form, and one below zero
 abbrev pub unsigneds : List (List ℕ)
 unsigneds = (0x00 ∷ []) ∷ [] ∷ (0x80 ∷ 0x00 ∷ []) ∷ []
@@ -116,9 +124,6 @@ writtenCanonicals = written canonicals (261 ∷ [])
 abbrev pub formRows : List (List ℕ × List ℕ)
 formRows = (import 0 1, []) ∷ (zeros 16385, []) ∷ wrongImports
 
-abbrev pub writtenFormRows : List (List ℕ × List ℕ × List ℕ × ℕ)
-writtenFormRows = written formRows (import 0 1)
-
 abbrev pub forms : List (Form × List ℕ × List ℕ)
 forms =
     (form.Import, import 0 1, [])
@@ -126,26 +131,11 @@ forms =
     ∷ (form.Not, import 0 1, [])
     ∷ each (λ x. (form.Import, x .0, x .1)) wrongImports
 
-abbrev pub writtenForms : List (Form × List ℕ × List ℕ × List ℕ × ℕ)
-writtenForms = each (λ x. (x .0, x .1, x .2, room, 0)) forms ++ (form.Import, import 0 1, [], [], 0) ∷ []
-
 abbrev pub shapes : List (Shape × List ℕ × ℕ × List ℕ)
 shapes = each (λ x. (formShape form.Import, x .0, 1, x .1)) formRows
 
-abbrev pub writtenShapes : List (Shape × List ℕ × ℕ × List ℕ × List ℕ × ℕ)
-writtenShapes = each (λ x. (x .0, x .1, x .2, x .3, room, 0)) shapes
-
-abbrev pub crampedShapes : List (Shape × List ℕ × ℕ × List ℕ × List ℕ × ℕ)
-crampedShapes = (formShape form.Import, import 0 1, 1, [], [], 0) ∷ []
-
 abbrev pub founds : List (Found × List ℕ × List ℕ)
 founds = each (λ x. (foundIn (x .0), x .1, x .2)) forms
-
-abbrev pub writtenFounds : List (Found × List ℕ × List ℕ × List ℕ × ℕ)
-writtenFounds = each (λ x. (x .0, x .1, x .2, room, 0)) founds
-
-abbrev pub crampedFounds : List (Found × List ℕ × List ℕ × List ℕ × ℕ)
-crampedFounds = (foundIn form.Import, import 0 1, [], [], 0) ∷ []
 
 abbrev pub bigRow : List ℕ
 bigRow = 0 ∷ 4294967295 ∷ []
@@ -240,6 +230,24 @@ resultSteps =
     ∷ (entry (Parametered 0), 2, 0, [])
     ∷ (fresh 7, 2, 0, room)
     ∷ []
+
+-- the parts of a function without a state: OK, TAG, ROOM; OK, LIMIT, ROW, TAG, RANGE, TEXT, ROOM; OK, TAG, ROOM
+abbrev pub asyncParts : List (ℕ × List ℕ × ℕ)
+asyncParts = (1, room, 0) ∷ (2, room, 0) ∷ (1, [], 0) ∷ []
+
+abbrev pub paramsParts : List (Bool × List ℕ × List ℕ × List ℕ × ℕ)
+paramsParts =
+    (true, 0 ∷ [], [], room, 0)
+    ∷ (true, zeros 16385, [], room, 0)
+    ∷ (true, [], [], room, 0)
+    ∷ (true, 1 ∷ 0 ∷ 0 ∷ 2 ∷ 0 ∷ [], [], room, 0)
+    ∷ (true, 1 ∷ 0 ∷ 1 ∷ 0 ∷ 0 ∷ [], [], room, 0)
+    ∷ (true, 1 ∷ 0 ∷ 1 ∷ 0 ∷ 0 ∷ [], 0xff ∷ [], room, 0)
+    ∷ (true, 0 ∷ [], [], [], 0)
+    ∷ []
+
+abbrev pub resultParts : List (ℕ × ℕ × List ℕ × ℕ)
+resultParts = (2, 0, room, 0) ∷ (3, 0, room, 0) ∷ (2, 0, [], 0) ∷ []
 
 -- OK, LIMIT, ORDER
 abbrev pub abandonSteps : List (Section × List ℕ)

@@ -253,7 +253,7 @@ all-allowed P r t f = go (nameless f)
 
 -- what a row of a shape can meet: TOO_BIG only where its size is too big
 pub record Measures (P : Refusal → Type 0) (s : Shape) (row : List ℕ) (start : ℕ) (pool : List ℕ) : Type 0 where
-  pub limit : P refusal.Limit
+  pub limit : (b : Bool) → b ≡ true → (b ≡ ltb 16384 (length row)) ⊎ (b ≡ ltb 65536 (length pool)) → P refusal.Limit
   pub width : eqb (rowWidth s row start) (length row) ≡ false → P refusal.Row
   pub tag : P refusal.Tag
   pub names : Each (Allowed P) (plan s)
@@ -283,14 +283,14 @@ measured-why P s row start pool h = rows (ltb 16384 (length row)) refl
     pools : (b : Bool) → ltb 65536 (length pool) ≡ b → length row ≤ 16384
         → Tells P (pick b (Refused refusal.Limit 0)
         (pick (eqb (rowWidth s row start) (length row)) (sized (judged s pool row start)) (Refused refusal.Row 0)))
-    pools true p short = h .limit
+    pools true p short = h .limit true refl (inr (sym p))
     pools false p short = widths (eqb (rowWidth s row start) (length row)) refl short (ltb-false _ _ p)
 
     rows : (b : Bool) → ltb 16384 (length row) ≡ b
         → Tells P (pick b (Refused refusal.Limit 0)
         (pick (ltb 65536 (length pool)) (Refused refusal.Limit 0)
         (pick (eqb (rowWidth s row start) (length row)) (sized (judged s pool row start)) (Refused refusal.Row 0))))
-    rows true p = h .limit
+    rows true p = h .limit true refl (inl (sym p))
     rows false p = pools (ltb 65536 (length pool)) refl (ltb-false _ _ p)
 
 -- a shape whose groups have a word makes no row too big
@@ -367,7 +367,7 @@ pub record Basic (P : Refusal → Type 0) : Type 0 where
 pub shape-why : (P : Refusal → Type 0) → Basic P → (s : Shape) → worded s ≡ true → Each (Allowed P) (plan s) → (row pool : List ℕ)
     → Measures P s row 1 pool
 shape-why P h s w names row pool =
-    record { limit = h .limit; width = λ e. h .empty; tag = h .tag; names = names; big = never-big s (worded-group s w) }
+    record { limit = λ b e k. h .limit; width = λ e. h .empty; tag = h .tag; names = names; big = never-big s (worded-group s w) }
 
 -- the rows of a table whose groups have words
 pub table-why : (P : Refusal → Type 0) → Basic P → (ls : List Line) → every worded ls ≡ true → (k : ℕ)

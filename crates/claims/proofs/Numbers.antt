@@ -2,7 +2,7 @@
 use Prim.Native.Nat.{ℕ, _+_}
 use native.Mathlib.Omega.{arith}
 use mathlib.Core.Path.{_≡_, refl, ap}
-use mathlib.Core.Logic.{inl, inr}
+use mathlib.Core.Logic.{_⊎_, inl, inr}
 use mathlib.Core.Bool.{Bool, true, false, cond}
 use mathlib.Core.List.{List, [], _∷_, _++_}
 use lib.Dec.{leb}
@@ -11,7 +11,7 @@ use lib.Seq.{sets}
 use Rattle.numbers.specs.declared.bytes.Stored.the-variants.{Size, Room}
 use Rattle.numbers.specs.declared.leb.Taken.{Taken}
 use Rattle.numbers.specs.declared.leb.Taken.the-variants as taken
-use Rattle.numbers.specs.Bytes.{left, store}
+use Rattle.numbers.specs.Bytes.{left, store, partOf}
 use Rattle.numbers.specs.Leb.{bytesOf, unsigned, signed, takeIn, within32, numberIn, more, takeUnsigned, takeSigned}
 use Rattle.numbers.specs.Numbers as numbers
 use Rattle.numbers.specs.Text as text
@@ -59,9 +59,9 @@ use Rattle.fields.specs.Scan.{byte}
 use Rattle.claims.specs.Kept.{numberOfRead}
 use Rattle.claims.specs.Numbers.{Among, Met, Exactly, RefusesBy}
 use Rattle.claims.proofs.BigShape.{bytesShape, big-measured, big-row}
-use Rattle.claims.proofs.NumberLaws.{Listed, Tells, told, read-told, each-any, Allowed, all-allowed, Basic, Measures, measured-why, measured-row-why, stored-why}
+use Rattle.claims.proofs.NumberLaws.{Listed, Tells, told, read-told, each-any, Allowed, all-allowed, Basic, Measures, measured-why, measured-row-why, stored-why, nameless-plan, never-big}
 use Rattle.claims.proofs.ReadNumbers.{item-why}
-use Rattle.claims.proofs.StepNumbers.{Named, form-why, type-why, import-why, canonical-why, write-type-why, write-import-why, write-canonical-why, write-family-why, row-why, open-why, async-why, params-why, result-why, abandon-why, finish-why, sheet-why}
+use Rattle.claims.proofs.StepNumbers.{Named, type-why, import-why, canonical-why, write-type-why, write-import-why, write-canonical-why, write-family-why, row-why, open-why, async-why, params-why, result-why, abandon-why, finish-why, sheet-why}
 use Rattle.claims.proofs.NumberInputs as input
 use Rattle.claims.proofs.NumberInputs.{each, meets, zeros, zeros-length, too-big}
 
@@ -99,7 +99,7 @@ any-shape : (P : Refusal → Type 0) → P refusal.Limit → P refusal.Row → P
     → (s : Shape) (row : List ℕ) (start : ℕ) (pool : List ℕ) → Measures P s row start pool
 any-shape P limit empty tag range text big s row start pool =
     record {
-      limit = limit;
+      limit = λ b e k. limit;
       width = λ e. empty;
       tag = tag;
       names = each-any (Allowed P) (all-allowed P range text) (plan s);
@@ -126,69 +126,66 @@ module _ (row pool : List ℕ) where
   found-numbers : (found : Found) → Among (numberOf (measuredRow found row pool)) (0 ∷ 1 ∷ 2 ∷ 3 ∷ 4 ∷ 5 ∷ 6 ∷ 7 ∷ [])
   found-numbers found = told (1 ∷ 2 ∷ 3 ∷ 4 ∷ 5 ∷ 6 ∷ 7 ∷ []) (measuredRow found row pool) (found-why [] found)
 
-  module _ (out : List ℕ) (at : ℕ) where
-    write-shape-numbers : (s : Shape) (start : ℕ)
-        → Among (numberOf (writeShape s row start pool out at .answer)) (0 ∷ 1 ∷ 3 ∷ 4 ∷ 5 ∷ 6 ∷ 7 ∷ 8 ∷ [])
-    unfolding writeShape numberOfRefusal
-    write-shape-numbers s start =
-        let ns : List ℕ = 1 ∷ 3 ∷ 4 ∷ 5 ∷ 6 ∷ 7 ∷ 8 ∷ [] in
-        told ns (writeShape s row start pool out at .answer)
-        (stored-why (Listed ns) refl (measured s row start pool) (written s pool row start) out at (shape-why (8 ∷ []) s start))
-
-    write-found-numbers : (found : Found) → Among (numberOf (writeRow found row pool out at .answer)) (0 ∷ 1 ∷ 2 ∷ 3 ∷ 4 ∷ 5 ∷ 6 ∷ 7 ∷ 8 ∷ [])
-    unfolding writeRow numberOfRefusal
-    write-found-numbers found =
-        let ns : List ℕ = 1 ∷ 2 ∷ 3 ∷ 4 ∷ 5 ∷ 6 ∷ 7 ∷ 8 ∷ [] in
-        told ns (writeRow found row pool out at .answer)
-        (stored-why (Listed ns) refl (measuredRow found row pool) (rowBytes found pool row) out at (found-why (8 ∷ []) found))
-
 -- the shape that makes a row TOO_BIG
 big-shape : (x : Shape × List ℕ × ℕ × List ℕ) × (numberOf (measured (x .0) (x .1) (x .2) (x .3)) ≡ 7)
 unfolding numberOf numberOfRefusal
 big-shape = ((bytesShape, input.bigRow, 1, []), ap numberOf (big-measured 4294967295 (omega arith)))
 
-big-write-shape : (x : Shape × List ℕ × ℕ × List ℕ × List ℕ × ℕ) × (numberOf (writeShape (x .0) (x .1) (x .2) (x .3) (x .4) (x .5) .answer) ≡ 7)
-unfolding writeShape stored numberOf numberOfRefusal
-big-write-shape = (
-  (bytesShape, input.bigRow, 1, [], [], 0),
-  ap (λ a. numberOf (stored a (written bytesShape [] input.bigRow 1) [] 0 .answer)) (big-measured 4294967295 (omega arith)),
-)
-
 big-found : (x : Found × List ℕ × List ℕ) × (numberOf (measuredRow (x .0) (x .1) (x .2)) ≡ 7)
 unfolding numberOf numberOfRefusal
 big-found = ((found.Is bytesShape, input.bigRow, []), ap numberOf (big-row 4294967295 (omega arith)))
 
-big-write-found : (x : Found × List ℕ × List ℕ × List ℕ × ℕ) × (numberOf (writeRow (x .0) (x .1) (x .2) (x .3) (x .4) .answer) ≡ 7)
-unfolding writeRow stored numberOf numberOfRefusal
-big-write-found = (
-  (found.Is bytesShape, input.bigRow, [], [], 0),
-  ap (λ a. numberOf (stored a (rowBytes (found.Is bytesShape) [] input.bigRow) [] 0 .answer)) (big-row 4294967295 (omega arith)),
-)
+-- ---- types: the parts of a function
 
--- the forms make none
-form-numbers : (f : Form) (row pool : List ℕ) → Among (numberOf (measuredRow (foundIn f) row pool)) (0 ∷ 1 ∷ 2 ∷ 3 ∷ 4 ∷ 5 ∷ 6 ∷ [])
-unfolding numberOfRefusal
-form-numbers f row pool =
-    let ns : List ℕ = 1 ∷ 2 ∷ 3 ∷ 4 ∷ 5 ∷ 6 ∷ [] in
-    told ns (measuredRow (foundIn f) row pool) (form-why (Listed ns) refl refl refl refl refl f (λ e. refl) row pool)
+part-numbers : (ns : List ℕ) (s : Shape) (words pool out : List ℕ) (at : ℕ) → Listed (ns ++ 8 ∷ []) refusal.Room → Measures (Listed (ns ++ 8 ∷ [])) s words 0 pool
+    → Among (numberOf (writeShape s words 0 pool out at .answer)) (0 ∷ (ns ++ 8 ∷ []))
+unfolding writeShape
+part-numbers ns s words pool out at room h =
+    told (ns ++ 8 ∷ []) (writeShape s words 0 pool out at .answer)
+    (stored-why (Listed (ns ++ 8 ∷ [])) room (measured s words 0 pool) (written s pool words 0) out at (measured-why (Listed (ns ++ 8 ∷ [])) s words 0 pool h))
 
-write-form-numbers : (f : Form) (row pool out : List ℕ) (at : ℕ)
-    → Among (numberOf (writeRow (foundIn f) row pool out at .answer)) (0 ∷ 1 ∷ 2 ∷ 3 ∷ 4 ∷ 5 ∷ 6 ∷ 8 ∷ [])
-unfolding writeRow numberOfRefusal
-write-form-numbers f row pool out at =
-    let ns : List ℕ = 1 ∷ 2 ∷ 3 ∷ 4 ∷ 5 ∷ 6 ∷ 8 ∷ [] in
-    told ns (writeRow (foundIn f) row pool out at .answer)
-    (stored-why (Listed ns) refl (measuredRow (foundIn f) row pool) (rowBytes (foundIn f) pool row) out at
-    (form-why (Listed ns) refl refl refl refl refl f (λ e. refl) row pool))
+-- a word or two are no row too long
+few-words : {X : Type 0} (b : Bool) → b ≡ true → (b ≡ false) ⊎ (b ≡ false) → X
+few-words true e (inl k) = let z : _≡_ {A = ℕ} 0 1 = cc in absurd (omega arith)
+few-words true e (inr k) = let z : _≡_ {A = ℕ} 0 1 = cc in absurd (omega arith)
+few-words false e k = let z : _≡_ {A = ℕ} 0 1 = cc in absurd (omega arith)
 
-write-import-form-numbers : (row pool out : List ℕ) (at : ℕ)
-    → Among (numberOf (writeRow (foundIn form.Import) row pool out at .answer)) (0 ∷ 1 ∷ 3 ∷ 4 ∷ 5 ∷ 6 ∷ 8 ∷ [])
-unfolding writeRow foundIn numberOfRefusal
-write-import-form-numbers row pool out at =
-    let ns : List ℕ = 1 ∷ 3 ∷ 4 ∷ 5 ∷ 6 ∷ 8 ∷ [] in
-    told ns (writeRow (foundIn form.Import) row pool out at .answer)
-    (stored-why (Listed ns) refl (measuredRow (foundIn form.Import) row pool) (rowBytes (foundIn form.Import) pool row) out at
-    (form-why (Listed ns) refl refl refl refl refl form.Import (λ e. let z : _≡_ {A = ℕ} 0 1 = cc in absurd (omega arith)) row pool))
+async-part : (a : ℕ) (out : List ℕ) (at : ℕ) → Among (numberOf (writeShape types.asyncShape (a ∷ []) 0 [] out at .answer)) (0 ∷ 4 ∷ 8 ∷ [])
+unfolding numberOfRefusal rowWidth widths wide
+async-part a out at =
+    part-numbers (4 ∷ []) types.asyncShape (a ∷ []) [] out at refl
+    (record {
+      limit = few-words;
+      width = λ e. let z : _≡_ {A = ℕ} 0 1 = cc in absurd (omega arith);
+      tag = refl;
+      names = nameless-plan (Listed (4 ∷ 8 ∷ [])) types.asyncShape refl;
+      big = never-big types.asyncShape (λ e. let z : _≡_ {A = ℕ} 0 1 = cc in absurd (omega arith));
+    })
+
+result-part : (t x : ℕ) (out : List ℕ) (at : ℕ) → Among (numberOf (writeShape types.resultShape (t ∷ x ∷ []) 0 [] out at .answer)) (0 ∷ 4 ∷ 8 ∷ [])
+unfolding numberOfRefusal rowWidth widths wide
+result-part t x out at =
+    part-numbers (4 ∷ []) types.resultShape (t ∷ x ∷ []) [] out at refl
+    (record {
+      limit = few-words;
+      width = λ e. let z : _≡_ {A = ℕ} 0 1 = cc in absurd (omega arith);
+      tag = refl;
+      names = nameless-plan (Listed (4 ∷ 8 ∷ [])) types.resultShape refl;
+      big = never-big types.resultShape (λ e. let z : _≡_ {A = ℕ} 0 1 = cc in absurd (omega arith));
+    })
+
+params-part : (first : Bool) (words pool out : List ℕ) (at : ℕ)
+    → Among (numberOf (writeShape (types.paramsShape first) words 0 pool out at .answer)) (0 ∷ 1 ∷ 3 ∷ 4 ∷ 5 ∷ 6 ∷ 8 ∷ [])
+unfolding numberOfRefusal widths wide
+params-part first words pool out at =
+    part-numbers (1 ∷ 3 ∷ 4 ∷ 5 ∷ 6 ∷ []) (types.paramsShape first) words pool out at refl
+    (record {
+      limit = λ b e k. refl;
+      width = λ e. refl;
+      tag = refl;
+      names = each-any (Allowed (Listed (1 ∷ 3 ∷ 4 ∷ 5 ∷ 6 ∷ 8 ∷ []))) (all-allowed (Listed (1 ∷ 3 ∷ 4 ∷ 5 ∷ 6 ∷ 8 ∷ [])) refl refl) (plan (types.paramsShape first));
+      big = never-big (types.paramsShape first) (λ e. omega arith);
+    })
 
 item-numbers : (found : Found) (kind lead g : ℕ) (input row : List ℕ)
     → Among (numberOfRead (readItem found kind lead g input row .answer)) (0 ∷ 1 ∷ 6 ∷ 8 ∷ 11 ∷ 12 ∷ 13 ∷ 14 ∷ [])
@@ -335,7 +332,7 @@ long =
     (too-big 4294967295 (omega arith) (zeros 4294967295) input.room (zeros-length 4294967295))
 
 pub refuses-by : RefusesBy
-unfolding store bytesOf takeIn within32 numberIn more numbers.numberOf numbers.numberOfTaken text.text text.rest text.step name primvaltype valtype optional resultlist functype flag representation destructor indexed canonopt slotAt slotsAt slots externname typebound externdesc bytes wide value optionalValue named optionalName reference flaw judge measuredRow rowBytes writeRow repeated seq widths rowWidth shapeIn formShape foundIn view walk outs numberOfRefusal numberOf sized measured stored writeShape measuredType writeType measuredImport writeImport measuredCanonical canonicalBytes writeCanonical kindIn kindOf leadGrade readType readImport readItem roomed scanIndex scanName scanPrimitive scanValue headScan firstScan secondScan scanExtern scanReference slotScan endScan scan primitive fillValue fillName fill knownFamily holdsAt sounds measuredFamily familyBytes writeFamily rowing opening asyncing paraming resulting abandoning framing finishing number words rowsFrom frame.framed familyOf tries joined finished sheeted given
+unfolding store partOf bytesOf takeIn within32 numberIn more numbers.numberOf numbers.numberOfTaken text.text text.rest text.step name primvaltype valtype optional resultlist functype flag representation destructor indexed canonopt slotAt slotsAt slots externname typebound externdesc bytes wide value optionalValue named optionalName reference flaw judge measuredRow rowBytes writeRow repeated seq widths rowWidth shapeIn formShape foundIn view walk outs numberOfRefusal numberOf sized measured stored writeShape measuredType writeType measuredImport writeImport measuredCanonical canonicalBytes writeCanonical kindIn kindOf leadGrade readType readImport readItem roomed scanIndex scanName scanPrimitive scanValue headScan firstScan secondScan scanExtern scanReference slotScan endScan scan primitive fillValue fillName fill knownFamily holdsAt sounds measuredFamily familyBytes writeFamily rowing opening asyncing paraming resulting abandoning framing finishing number words rowsFrom frame.framed familyOf tries joined finished sheeted given
 refuses-by =
     record {
       copy = exactly (λ x. store-numbers (x .0) (x .1) (x .2)) input.copies refl;
@@ -346,24 +343,20 @@ refuses-by =
       measure-shape =
           exactly-but (0 ∷ 1 ∷ 3 ∷ 4 ∷ 5 ∷ 6 ∷ []) 7 [] (λ x. shape-numbers (x .1) (x .3) (x .0) (x .2)) input.shapes (rw (zeros-length 16385))
           big-shape [] refl;
-      write-shape =
-          exactly-but (0 ∷ 1 ∷ 3 ∷ 4 ∷ 5 ∷ 6 ∷ []) 7 (8 ∷ []) (λ x. write-shape-numbers (x .1) (x .3) (x .4) (x .5) (x .0) (x .2)) input.writtenShapes
-          (rw (zeros-length 16385)) big-write-shape input.crampedShapes refl;
       measure-row =
           exactly-but (0 ∷ 1 ∷ 2 ∷ 3 ∷ 4 ∷ 5 ∷ 6 ∷ []) 7 [] (λ x. found-numbers (x .1) (x .2) (x .0)) input.founds (rw (zeros-length 16385)) big-found
           [] refl;
-      write-row =
-          exactly-but (0 ∷ 1 ∷ 2 ∷ 3 ∷ 4 ∷ 5 ∷ 6 ∷ []) 7 (8 ∷ []) (λ x. write-found-numbers (x .1) (x .2) (x .3) (x .4) (x .0)) input.writtenFounds
-          (rw (zeros-length 16385)) big-write-found input.crampedFounds refl;
       read-item = exactly (λ x. item-numbers (x .0) (x .1) (x .2) (x .3) (x .4) (x .5)) input.readItems refl;
-      measure-form = exactly (λ x. form-numbers (x .0) (x .1) (x .2)) input.forms (rw (zeros-length 16385));
-      write-form = exactly (λ x. write-form-numbers (x .0) (x .1) (x .2) (x .3) (x .4)) input.writtenForms (rw (zeros-length 16385));
-      write-import-form = exactly (λ x. write-import-form-numbers (x .0) (x .1) (x .2) (x .3)) input.writtenFormRows (rw (zeros-length 16385));
       read-form = exactly (λ x. item-numbers (foundIn (x .0)) (x .1) (x .2) (x .3) (x .4) (x .5)) input.readForms refl;
       read-import-form = exactly (λ x. item-numbers (foundIn form.Import) (x .0) (x .1) (x .2) (x .3) (x .4)) input.readImportForms refl;
+      put-value = exactly (λ x. store-numbers (valtype (x .0) (x .1)) (x .2) (x .3)) input.values refl;
+      put-name = exactly (λ x. store-numbers (unsigned (x .2) ++ partOf (x .0) (x .1) (x .2)) (x .3) (x .4)) input.names refl;
       measure-type = exactly (λ x. type-numbers (x .0) (x .1)) input.types (rw (zeros-length 16385));
       write-type = exactly (λ x. write-type-numbers (x .0) (x .1) (x .2) (x .3)) input.writtenTypes (rw (zeros-length 16385));
       read-type = exactly (λ x. read-type-numbers (x .0) (x .1) (x .2)) input.readTypes refl;
+      write-async = exactly (λ x. async-part (x .0) (x .1) (x .2)) input.asyncParts refl;
+      write-params = exactly (λ x. params-part (x .0) (x .1) (x .2) (x .3) (x .4)) input.paramsParts (rw (zeros-length 16385));
+      write-result = exactly (λ x. result-part (x .0) (x .1) (x .2) (x .3)) input.resultParts refl;
       measure-import = exactly (λ x. import-numbers (x .0) (x .1)) input.imports (rw (zeros-length 16385));
       write-import = exactly (λ x. write-import-numbers (x .0) (x .1) (x .2) (x .3)) input.writtenImports (rw (zeros-length 16385));
       read-import = exactly (λ x. read-import-numbers (x .0) (x .1) (x .2)) input.readImports refl;

@@ -17,13 +17,7 @@ use Rattle.fields.specs.declared.Leaf.the-variants.{Fine, Bad}
 use Rattle.fields.specs.declared.Refusal.{Refusal}
 use Rattle.fields.specs.declared.Refusal.the-variants as refusal
 use Rattle.fields.specs.declared.Shape.{Shape}
-use Rattle.fields.specs.declared.form.Form.{Form}
-use Rattle.fields.specs.declared.form.Form.the-variants as form
-use Rattle.fields.specs.declared.form.Tail.the-variants as tail
-use Rattle.fields.specs.declared.form.Unit.{Unit}
-use Rattle.fields.specs.declared.form.Unit.the-variants as unit
 use Rattle.fields.specs.Binary.{pick, word}
-use Rattle.fields.specs.Form.{unitOne, unitTwo, tailField, formShape, foundIn}
 use Rattle.fields.specs.Judge.{wide}
 use Rattle.fields.specs.Row.{measuredRow, rowBytes, writeRow}
 use Rattle.fields.specs.Shape.{plan, widths, rowWidth}
@@ -53,21 +47,6 @@ use Rattle.claims.proofs.NumberLaws.{Ends, Tells, on-test, Allowed, Eac
 
 -- ---- rows
 
--- a form whose groups are counted has words in them
-form-words : (f : Form) (s : Shape) → foundIn f ≡ Is s → worded s ≡ true
-unfolding foundIn formShape unitOne unitTwo tailField widths wide
-form-words form.Primitive s e = let same : formShape form.Primitive ≡ s = cc in ap worded (sym same)
-form-words (form.Pair b p q) s e = let same : formShape (form.Pair b p q) ≡ s = cc in ap worded (sym same)
-form-words (form.List f u c) s e = let same : formShape (form.List f u c) ≡ s = cc in ap worded (sym same) ∙ group-words u
-  where
-    group-words : (u : Unit) → leb 1 (widths (unitOne u ∷ unitTwo u ∷ [])) ≡ true
-    group-words (unit.Named tail.Nothing) = refl
-    group-words (unit.Named tail.Value) = refl
-    group-words (unit.Named tail.Case) = refl
-    group-words unit.Values = refl
-form-words form.Import s e = let same : formShape form.Import ≡ s = cc in ap worded (sym same)
-form-words form.Not s e = let z : _≡_ {A = ℕ} 0 1 = cc in absurd (omega arith)
-
 -- what a row that has names can meet
 pub record Named (P : Refusal → Type 0) : Type 0 where
   pub basic : Basic P
@@ -85,24 +64,6 @@ module _ (P : Refusal → Type 0) where
   pub import-why : Named P → (row pool : List ℕ) → Tells P (measuredImport row pool)
   unfolding measuredImport every widths wide
   import-why h row pool = table-why P (h .basic) imports.table refl (word row 0) (λ s e. any-plan h s) row pool
-
-  -- the rows of a form, of which only Not is no kind
-  pub form-why : P refusal.Limit → P refusal.Row → P refusal.Tag → P refusal.Range → P refusal.Text → (f : Form) → (foundIn f ≡ Not → P refusal.Kind)
-      → (row pool : List ℕ) → Tells P (measuredRow (foundIn f) row pool)
-  form-why limit empty tag range text f kind row pool =
-      measured-row-why P (foundIn f) row pool
-      (record {
-        limit = limit;
-        kind = kind;
-        empty = empty;
-        shape = λ s e. record {
-          limit = limit;
-          width = λ w. empty;
-          tag = tag;
-          names = each-any (Allowed P) (all-allowed P range text) (plan s);
-          big = never-big s (worded-group s (form-words f s e));
-        };
-      })
 
   -- no canonical has a name
   pub canonical-why : Basic P → (row pool : List ℕ) → Tells P (measuredCanonical row pool)
@@ -208,7 +169,7 @@ module _ (P : Refusal → Type 0) (limit : P refusal.Limit) (s : Section) (body 
         fields : Measures P asyncShape (a ∷ []) 0 []
         fields =
             record {
-              limit = limit;
+              limit = λ b e k. limit;
               width = λ e. let z : _≡_ {A = ℕ} 0 1 = cc in absurd (omega arith);
               tag = tag;
               names = nameless-plan P asyncShape refl;
@@ -228,7 +189,7 @@ module _ (P : Refusal → Type 0) (limit : P refusal.Limit) (s : Section) (body 
         fields : Measures P resultShape (t ∷ x ∷ []) 0 []
         fields =
             record {
-              limit = limit;
+              limit = λ b e k. limit;
               width = λ e. let z : _≡_ {A = ℕ} 0 1 = cc in absurd (omega arith);
               tag = tag;
               names = nameless-plan P resultShape refl;
@@ -250,7 +211,7 @@ module _ (P : Refusal → Type 0) (limit : P refusal.Limit) (s : Section) (body 
         fields : (lead : Field) → Measures P (paramsShape lead) words 0 pool
         fields lead =
             record {
-              limit = limit;
+              limit = λ b e k. limit;
               width = λ e. row;
               tag = tag;
               names = each-any (Allowed P) (all-allowed P range text) (plan (paramsShape lead));

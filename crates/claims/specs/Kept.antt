@@ -3,25 +3,25 @@
 use Prim.Native.Nat.{ℕ, _+_, _-_, _≤_, _<_}
 use mathlib.Core.Path.{_≡_}
 use mathlib.Core.Logic.{_⊎_}
-use mathlib.Core.List.{List, [], _∷_}
+use mathlib.Core.Bool.{Bool}
+use mathlib.Core.List.{List, [], _∷_, _++_}
 use lib.ListN.{length, getD}
 use Rattle.numbers.specs.Bytes as bytes
-use Rattle.numbers.specs.Bytes.{store}
+use Rattle.numbers.specs.Bytes.{store, partOf}
 use Rattle.numbers.specs.Leb.{unsigned, signed}
 use Rattle.numbers.specs.Numbers as numbers
 use Rattle.fields.specs.declared.Answer.{Answer}
 use Rattle.fields.specs.declared.Found.{Found}
 use Rattle.fields.specs.declared.Read.{Read}
 use Rattle.fields.specs.declared.Read.the-variants as read
-use Rattle.fields.specs.declared.Shape.{Shape}
 use Rattle.fields.specs.declared.form.Form.{Form}
 use Rattle.fields.specs.declared.form.Form.the-variants as form
+use Rattle.fields.specs.Binary.{valtype}
 use Rattle.fields.specs.Form.{foundIn}
 use Rattle.fields.specs.Read.{LeftRow, readItem}
-use Rattle.fields.specs.Row.{writeRow}
 use Rattle.fields.specs.Write.{numberOfRefusal, numberOf, valueOf, Left, writeShape}
 use Rattle.types.specs.Read.{readType}
-use Rattle.types.specs.Write.{writeType}
+use Rattle.types.specs.Write.{writeType, asyncShape, paramsShape, resultShape}
 use Rattle.imports.specs.Read.{readImport}
 use Rattle.imports.specs.Write.{writeImport}
 use Rattle.canonicals.specs.Write.{writeCanonical}
@@ -108,15 +108,17 @@ pub record ChangesNothingElse : Type 0 where
   pub put-unsigned : (n at : ℕ) (out : List ℕ) → Stores at out (store (unsigned n) at out)
   pub put-signed : (n at : ℕ) (out : List ℕ) → Stores at out (store (signed n) at out)
   -- fields
-  pub write-shape : (s : Shape) (row : List ℕ) (start : ℕ) (pool out : List ℕ) (at : ℕ) → Writes at out (writeShape s row start pool out at)
-  pub write-row : (found : Found) (row pool out : List ℕ) (at : ℕ) → Writes at out (writeRow found row pool out at)
-  pub write-form : (f : Form) (row pool out : List ℕ) (at : ℕ) → Writes at out (writeRow (foundIn f) row pool out at)
-  pub write-import-form : (row pool out : List ℕ) (at : ℕ) → Writes at out (writeRow (foundIn form.Import) row pool out at)
   pub read-item : (found : Found) (kind lead g : ℕ) (input row : List ℕ) → Reads row (readItem found kind lead g input row)
   pub read-form : (f : Form) (kind lead g : ℕ) (input row : List ℕ) → Reads row (readItem (foundIn f) kind lead g input row)
   pub read-import-form : (kind lead g : ℕ) (input row : List ℕ) → Reads row (readItem (foundIn form.Import) kind lead g input row)
+  -- writing
+  pub put-value : (tag x at : ℕ) (out : List ℕ) → Stores at out (store (valtype tag x) at out)
+  pub put-name : (pool : List ℕ) (start size at : ℕ) (out : List ℕ) → Stores at out (store (unsigned size ++ partOf pool start size) at out)
   -- types, imports, canonicals
   pub write-type : (row pool out : List ℕ) (at : ℕ) → Writes at out (writeType row pool out at)
+  pub write-async : (a : ℕ) (out : List ℕ) (at : ℕ) → Writes at out (writeShape asyncShape (a ∷ []) 0 [] out at)
+  pub write-params : (first : Bool) (words pool out : List ℕ) (at : ℕ) → Writes at out (writeShape (paramsShape first) words 0 pool out at)
+  pub write-result : (tag x : ℕ) (out : List ℕ) (at : ℕ) → Writes at out (writeShape resultShape (tag ∷ x ∷ []) 0 [] out at)
   pub write-import : (row pool out : List ℕ) (at : ℕ) → Writes at out (writeImport row pool out at)
   pub write-canonical : (row pool out : List ℕ) (at : ℕ) → Writes at out (writeCanonical row pool out at)
   pub read-type : (g : ℕ) (input row : List ℕ) → Reads row (readType g input row)

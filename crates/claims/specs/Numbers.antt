@@ -2,20 +2,22 @@
 use Prim.Native.Nat.{ℕ}
 use mathlib.Core.Path.{_≡_}
 use mathlib.Core.Logic.{_⊎_}
-use mathlib.Core.List.{List, [], _∷_}
-use Rattle.numbers.specs.Bytes.{store}
+use mathlib.Core.Bool.{Bool}
+use mathlib.Core.List.{List, [], _∷_, _++_}
+use Rattle.numbers.specs.Bytes.{store, partOf}
 use Rattle.numbers.specs.Leb.{unsigned, signed, takeUnsigned, takeSigned}
 use Rattle.numbers.specs.Numbers as numbers
 use Rattle.fields.specs.declared.Found.{Found}
 use Rattle.fields.specs.declared.Shape.{Shape}
 use Rattle.fields.specs.declared.form.Form.{Form}
 use Rattle.fields.specs.declared.form.Form.the-variants as form
+use Rattle.fields.specs.Binary.{valtype}
 use Rattle.fields.specs.Form.{foundIn}
 use Rattle.fields.specs.Read.{readItem}
-use Rattle.fields.specs.Row.{measuredRow, writeRow}
+use Rattle.fields.specs.Row.{measuredRow}
 use Rattle.fields.specs.Write.{numberOf, measured, writeShape}
 use Rattle.types.specs.Read.{readType}
-use Rattle.types.specs.Write.{measuredType, writeType}
+use Rattle.types.specs.Write.{measuredType, writeType, asyncShape, paramsShape, resultShape}
 use Rattle.imports.specs.Read.{readImport}
 use Rattle.imports.specs.Write.{measuredImport, writeImport}
 use Rattle.canonicals.specs.Write.{measuredCanonical, writeCanonical}
@@ -51,21 +53,22 @@ pub record RefusesBy : Type 0 where
   pub put-signed : Exactly (ℕ × ℕ × List ℕ) (λ x. numbers.numberOf (store (signed (x .0)) (x .1) (x .2) .answer)) (0 ∷ 8 ∷ [])
   pub take-unsigned : Exactly (List ℕ) (λ x. numbers.numberOfTaken (takeUnsigned x)) (0 ∷ 11 ∷ 13 ∷ [])
   pub take-signed : Exactly (List ℕ) (λ x. numbers.numberOfTaken (takeSigned x)) (0 ∷ 11 ∷ 13 ∷ [])
-  -- fields: by every shape, TOO_BIG included, and by those of the forms
+  -- fields: by every shape, TOO_BIG included
   pub measure-shape : Exactly (Shape × List ℕ × ℕ × List ℕ) (λ x. numberOf (measured (x .0) (x .1) (x .2) (x .3))) (0 ∷ 1 ∷ 3 ∷ 4 ∷ 5 ∷ 6 ∷ 7 ∷ [])
-  pub write-shape : Exactly (Shape × List ℕ × ℕ × List ℕ × List ℕ × ℕ) (λ x. numberOf (writeShape (x .0) (x .1) (x .2) (x .3) (x .4) (x .5) .answer)) (0 ∷ 1 ∷ 3 ∷ 4 ∷ 5 ∷ 6 ∷ 7 ∷ 8 ∷ [])
   pub measure-row : Exactly (Found × List ℕ × List ℕ) (λ x. numberOf (measuredRow (x .0) (x .1) (x .2))) (0 ∷ 1 ∷ 2 ∷ 3 ∷ 4 ∷ 5 ∷ 6 ∷ 7 ∷ [])
-  pub write-row : Exactly (Found × List ℕ × List ℕ × List ℕ × ℕ) (λ x. numberOf (writeRow (x .0) (x .1) (x .2) (x .3) (x .4) .answer)) (0 ∷ 1 ∷ 2 ∷ 3 ∷ 4 ∷ 5 ∷ 6 ∷ 7 ∷ 8 ∷ [])
   pub read-item : Exactly (Found × ℕ × ℕ × ℕ × List ℕ × List ℕ) (λ x. numberOfRead (readItem (x .0) (x .1) (x .2) (x .3) (x .4) (x .5) .answer)) (0 ∷ 1 ∷ 6 ∷ 8 ∷ 11 ∷ 12 ∷ 13 ∷ 14 ∷ [])
-  pub measure-form : Exactly (Form × List ℕ × List ℕ) (λ x. numberOf (measuredRow (foundIn (x .0)) (x .1) (x .2))) (0 ∷ 1 ∷ 2 ∷ 3 ∷ 4 ∷ 5 ∷ 6 ∷ [])
-  pub write-form : Exactly (Form × List ℕ × List ℕ × List ℕ × ℕ) (λ x. numberOf (writeRow (foundIn (x .0)) (x .1) (x .2) (x .3) (x .4) .answer)) (0 ∷ 1 ∷ 2 ∷ 3 ∷ 4 ∷ 5 ∷ 6 ∷ 8 ∷ [])
-  pub write-import-form : Exactly (List ℕ × List ℕ × List ℕ × ℕ) (λ x. numberOf (writeRow (foundIn form.Import) (x .0) (x .1) (x .2) (x .3) .answer)) (0 ∷ 1 ∷ 3 ∷ 4 ∷ 5 ∷ 6 ∷ 8 ∷ [])
   pub read-form : Exactly (Form × ℕ × ℕ × ℕ × List ℕ × List ℕ) (λ x. numberOfRead (readItem (foundIn (x .0)) (x .1) (x .2) (x .3) (x .4) (x .5) .answer)) (0 ∷ 1 ∷ 6 ∷ 8 ∷ 11 ∷ 12 ∷ 13 ∷ 14 ∷ [])
   pub read-import-form : Exactly (ℕ × ℕ × ℕ × List ℕ × List ℕ) (λ x. numberOfRead (readItem (foundIn form.Import) (x .0) (x .1) (x .2) (x .3) (x .4) .answer)) (0 ∷ 1 ∷ 6 ∷ 8 ∷ 11 ∷ 12 ∷ 13 ∷ 14 ∷ [])
+  -- writing
+  pub put-value : Exactly (ℕ × ℕ × ℕ × List ℕ) (λ x. numbers.numberOf (store (valtype (x .0) (x .1)) (x .2) (x .3) .answer)) (0 ∷ 8 ∷ [])
+  pub put-name : Exactly (List ℕ × ℕ × ℕ × ℕ × List ℕ) (λ x. numbers.numberOf (store (unsigned (x .2) ++ partOf (x .0) (x .1) (x .2)) (x .3) (x .4) .answer)) (0 ∷ 8 ∷ [])
   -- types and imports: no row is TOO_BIG
   pub measure-type : Exactly (List ℕ × List ℕ) (λ x. numberOf (measuredType (x .0) (x .1))) (0 ∷ 1 ∷ 2 ∷ 3 ∷ 4 ∷ 5 ∷ 6 ∷ [])
   pub write-type : Exactly (List ℕ × List ℕ × List ℕ × ℕ) (λ x. numberOf (writeType (x .0) (x .1) (x .2) (x .3) .answer)) (0 ∷ 1 ∷ 2 ∷ 3 ∷ 4 ∷ 5 ∷ 6 ∷ 8 ∷ [])
   pub read-type : Exactly (ℕ × List ℕ × List ℕ) (λ x. numberOfRead (readType (x .0) (x .1) (x .2) .answer)) (0 ∷ 1 ∷ 6 ∷ 8 ∷ 11 ∷ 12 ∷ 13 ∷ 14 ∷ [])
+  pub write-async : Exactly (ℕ × List ℕ × ℕ) (λ x. numberOf (writeShape asyncShape (x .0 ∷ []) 0 [] (x .1) (x .2) .answer)) (0 ∷ 4 ∷ 8 ∷ [])
+  pub write-params : Exactly (Bool × List ℕ × List ℕ × List ℕ × ℕ) (λ x. numberOf (writeShape (paramsShape (x .0)) (x .1) 0 (x .2) (x .3) (x .4) .answer)) (0 ∷ 1 ∷ 3 ∷ 4 ∷ 5 ∷ 6 ∷ 8 ∷ [])
+  pub write-result : Exactly (ℕ × ℕ × List ℕ × ℕ) (λ x. numberOf (writeShape resultShape (x .0 ∷ x .1 ∷ []) 0 [] (x .2) (x .3) .answer)) (0 ∷ 4 ∷ 8 ∷ [])
   pub measure-import : Exactly (List ℕ × List ℕ) (λ x. numberOf (measuredImport (x .0) (x .1))) (0 ∷ 1 ∷ 2 ∷ 3 ∷ 4 ∷ 5 ∷ 6 ∷ [])
   pub write-import : Exactly (List ℕ × List ℕ × List ℕ × ℕ) (λ x. numberOf (writeImport (x .0) (x .1) (x .2) (x .3) .answer)) (0 ∷ 1 ∷ 2 ∷ 3 ∷ 4 ∷ 5 ∷ 6 ∷ 8 ∷ [])
   pub read-import : Exactly (ℕ × List ℕ × List ℕ) (λ x. numberOfRead (readImport (x .0) (x .1) (x .2) .answer)) (0 ∷ 1 ∷ 6 ∷ 8 ∷ 11 ∷ 12 ∷ 13 ∷ 14 ∷ [])

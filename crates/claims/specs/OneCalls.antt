@@ -6,6 +6,7 @@ use denote.Triple.Clauses.{Ended, closing}
 use denote.Triple.Entry.{Args}
 use borrow.Fn.World.{World, w₀}
 use Rattle.numbers.proofs.bytes.copy as call-copy
+use Rattle.numbers.proofs.bytes.stored_size as call-stored-size
 use Rattle.numbers.proofs.leb.unsigned_size as call-unsigned-size
 use Rattle.numbers.proofs.leb.signed_size as call-signed-size
 use Rattle.numbers.proofs.leb.put_unsigned as call-put-unsigned
@@ -13,31 +14,34 @@ use Rattle.numbers.proofs.leb.put_signed as call-put-signed
 use Rattle.numbers.proofs.leb.take_unsigned as call-take-unsigned
 use Rattle.numbers.proofs.leb.take_signed as call-take-signed
 use Rattle.numbers.proofs.text.is_text as call-is-text
-use Rattle.fields.proofs.form.plain_field as call-plain-field
 use Rattle.fields.proofs.form.found_of as call-found-of
 use Rattle.fields.proofs.form.plain_wide as call-plain-wide
 use Rattle.fields.proofs.form.tail_wide as call-tail-wide
 use Rattle.fields.proofs.form.unit_wide as call-unit-wide
 use Rattle.fields.proofs.form.front_wide as call-front-wide
 use Rattle.fields.proofs.form.close_wide as call-close-wide
+use Rattle.fields.proofs.is_indexed as call-is-indexed
 use Rattle.fields.proofs.row.kind_of as call-kind-of
 use Rattle.fields.proofs.row.two_of as call-two-of
 use Rattle.fields.proofs.row.many_of as call-many-of
 use Rattle.fields.proofs.row.measure_row as call-measure-row
-use Rattle.fields.proofs.row.write_row as call-write-row
-use Rattle.fields.proofs.straight.measure_form as call-measure-form
-use Rattle.fields.proofs.straight.write_form as call-write-form
-use Rattle.fields.proofs.straight.write_import as call-write-import-form
 use Rattle.fields.proofs.straight.read_form as call-read-form
 use Rattle.fields.proofs.straight.read_import as call-read-import-form
 use Rattle.fields.proofs.wall.number_of as call-number-of
 use Rattle.fields.proofs.write.measure_shape as call-measure-shape
-use Rattle.fields.proofs.write.write_shape as call-write-shape
 use Rattle.fields.proofs.first_of as call-first-of
 use Rattle.fields.proofs.read_item as call-read-item
+use Rattle.writing.proofs.fits as call-fits
+use Rattle.writing.proofs.value_size as call-value-size
+use Rattle.writing.proofs.name_size as call-name-size
+use Rattle.writing.proofs.put_value as call-put-value
+use Rattle.writing.proofs.put_name as call-put-name
 use Rattle.types.proofs.measure as call-measure-type
 use Rattle.types.proofs.write as call-write-type
 use Rattle.types.proofs.read as call-read-type
+use Rattle.types.proofs.steps.write_async as call-write-async
+use Rattle.types.proofs.steps.write_params as call-write-params
+use Rattle.types.proofs.steps.write_result as call-write-result
 use Rattle.imports.proofs.measure as call-measure-import
 use Rattle.imports.proofs.write as call-write-import
 use Rattle.imports.proofs.read as call-read-import
@@ -76,6 +80,7 @@ use Rattle.claims.specs.One.{Contract, Outcome, Ghost, says, OneOutcome,
 pub record NoSecondOutcome : Type 2 where
   -- numbers
   pub copy : OneOutcome call-copy.ended (λ M. call-copy.clauses)
+  pub stored-size : OneOutcome call-stored-size.ended (λ M. call-stored-size.clauses)
   pub unsigned-size : OneOutcome call-unsigned-size.ended (λ M. call-unsigned-size.clauses)
   pub signed-size : OneOutcome call-signed-size.ended (λ M. call-signed-size.clauses)
   pub put-unsigned : OneOutcome call-put-unsigned.ended (λ M. call-put-unsigned.clauses)
@@ -84,32 +89,36 @@ pub record NoSecondOutcome : Type 2 where
   pub take-signed : OneOutcome call-take-signed.ended (λ M. call-take-signed.clauses)
   pub is-text : OneOutcome call-is-text.ended (λ M. call-is-text.clauses)
   -- fields
-  pub plain-field : OneOutcome call-plain-field.ended (λ M. call-plain-field.clauses)
   pub found-of : OneOutcome call-found-of.ended (λ M. call-found-of.clauses)
   pub plain-wide : OneOutcome call-plain-wide.ended (λ M. call-plain-wide.clauses)
   pub tail-wide : OneOutcome call-tail-wide.ended (λ M. call-tail-wide.clauses)
   pub unit-wide : OneOutcome call-unit-wide.ended (λ M. call-unit-wide.clauses)
   pub front-wide : OneOutcome call-front-wide.ended (λ M. call-front-wide.clauses)
   pub close-wide : OneOutcome call-close-wide.ended (λ M. call-close-wide.clauses)
+  pub is-indexed : OneOutcome call-is-indexed.ended (λ M. call-is-indexed.clauses)
   pub kind-of : OneOutcome call-kind-of.ended (λ M. call-kind-of.clauses)
   pub two-of : OneOutcome call-two-of.ended (λ M. call-two-of.clauses)
   pub many-of : OneOutcome call-many-of.ended (λ M. call-many-of.clauses)
   pub measure-row : OneOutcome call-measure-row.ended (λ M. call-measure-row.clauses)
-  pub write-row : OneOutcome call-write-row.ended (λ M. call-write-row.clauses)
-  pub measure-form : OneOutcome call-measure-form.ended (λ M. call-measure-form.clauses)
-  pub write-form : OneOutcome call-write-form.ended (λ M. call-write-form.clauses)
-  pub write-import-form : OneOutcome call-write-import-form.ended (λ M. call-write-import-form.clauses)
   pub read-form : OneOutcome call-read-form.ended (λ M. call-read-form.clauses)
   pub read-import-form : OneOutcome call-read-import-form.ended (λ M. call-read-import-form.clauses)
   pub number-of : OneOutcome call-number-of.ended (λ M. call-number-of.clauses)
   pub measure-shape : OneOutcome call-measure-shape.ended (λ M. call-measure-shape.clauses)
-  pub write-shape : OneOutcome call-write-shape.ended (λ M. call-write-shape.clauses)
   pub first-of : OneOutcome call-first-of.ended (λ M. call-first-of.clauses)
   pub read-item : OneOutcome call-read-item.ended (λ M. call-read-item.clauses)
+  -- writing
+  pub fits : OneOutcome call-fits.ended (λ M. call-fits.clauses)
+  pub value-size : OneOutcome call-value-size.ended (λ M. call-value-size.clauses)
+  pub name-size : OneOutcome call-name-size.ended (λ M. call-name-size.clauses)
+  pub put-value : OneOutcome call-put-value.ended (λ M. call-put-value.clauses)
+  pub put-name : OneOutcome call-put-name.ended (λ M. call-put-name.clauses)
   -- types
   pub measure-type : OneOutcome call-measure-type.ended (λ M. call-measure-type.clauses)
   pub write-type : OneOutcome call-write-type.ended (λ M. call-write-type.clauses)
   pub read-type : OneOutcome call-read-type.ended (λ M. call-read-type.clauses)
+  pub write-async : OneOutcome call-write-async.ended (λ M. call-write-async.clauses)
+  pub write-params : OneOutcome call-write-params.ended (λ M. call-write-params.clauses)
+  pub write-result : OneOutcome call-write-result.ended (λ M. call-write-result.clauses)
   -- imports
   pub measure-import : OneOutcome call-measure-import.ended (λ M. call-measure-import.clauses)
   pub write-import : OneOutcome call-write-import.ended (λ M. call-write-import.clauses)

@@ -1,14 +1,12 @@
--- What a row that has a size is, and what writing it answers and leaves.
-use Prim.Native.Nat.{ℕ, _+_, _≤_, _<_}
+-- What a row that has a size is.
+use Prim.Native.Nat.{ℕ, _≤_}
 use native.Mathlib.Omega.{arith}
 use mathlib.Core.Path.{_≡_, refl, sym, ap, _∙_}
 use mathlib.Core.Bool.{Bool, true, false}
 use mathlib.Core.List.{List}
-use borrow.Author.Tests.{ltb-false, eqb-true, le-leb, lt-leb}
+use borrow.Author.Tests.{ltb-false, eqb-true}
 use lib.Dec.{eqb, ltb}
 use lib.ListN.{length}
-use lib.Seq.{sets}
-use Rattle.fields.specs.declared.Refusal.{Refusal}
 use Rattle.fields.specs.declared.Refusal.the-variants as refusal
 use Rattle.fields.specs.declared.Leaf.{Leaf}
 use Rattle.fields.specs.declared.Leaf.the-variants.{Fine, Bad}
@@ -16,9 +14,8 @@ use Rattle.fields.specs.declared.Answer.{Answer}
 use Rattle.fields.specs.declared.Answer.the-variants.{Size, Refused}
 use Rattle.fields.specs.declared.Shape.{Shape}
 use Rattle.fields.specs.Binary.{pick}
-use Rattle.fields.specs.Run.{Stays}
 use Rattle.fields.specs.Shape.{rowWidth}
-use Rattle.fields.specs.Write.{left, refuse, judged, written, sized, measured, stored, writeShape}
+use Rattle.fields.specs.Write.{judged, sized, measured}
 
 -- a row that has a size: it is as long as it needs, row and pool keep within the limits, and the walk over its fields makes the size
 pub record Sized (s : Shape) (row : List ℕ) (start : ℕ) (pool : List ℕ) (size : ℕ) : Type 0 where
@@ -27,11 +24,6 @@ pub record Sized (s : Shape) (row : List ℕ) (start : ℕ) (pool : List ℕ) (s
   pub small : length pool ≤ 65536
   pub end : ℕ
   pub judges : judged s pool row start ≡ Fine end size
-
--- its fields stay within a buffer that has room for the size
-pub sized-stays : {s : Shape} {row : List ℕ} {start : ℕ} {pool : List ℕ} {size : ℕ} → Sized s row start pool size
-    → (to n : ℕ) → to + size ≤ n → Stays (judged s pool row start) to n
-sized-stays k to n h = rw (k .judges) h
 
 module _ (s : Shape) (row : List ℕ) (start : ℕ) (pool : List ℕ) {found : Answer} (ef : found ≡ measured s row start pool) where
   pub measured-sized : (size : ℕ) → found ≡ Size size → Sized s row start pool size
@@ -65,19 +57,3 @@ module _ (s : Shape) (row : List ℕ) (start : ℕ) (pool : List ℕ) {found : A
           → Sized s row start pool size
       rows true p e = let z : _≡_ {A = ℕ} 0 1 = cc in absurd (omega arith)
       rows false p e = pools (ltb 65536 (length pool)) refl (ltb-false _ _ p) e
-
-  -- the answer and the buffer: refused before, no room, and written
-  module _ (out : List ℕ) (at : ℕ) where
-    pub write-refused : {why : Refusal} {n : ℕ} → found ≡ Refused why n → refuse why n out ≡ writeShape s row start pool out at
-    unfolding writeShape stored
-    write-refused e = rw (← ef, e)
-
-    module _ {size : ℕ} (e : found ≡ Size size) where
-      pub write-cramped : length out < at + size → refuse refusal.Room size out ≡ writeShape s row start pool out at
-      unfolding writeShape stored
-      write-cramped h = rw (← ef, e) (simp (lt-leb _ _ h))
-
-      pub write-whole : at + size ≤ length out → (new : List ℕ) → new ≡ sets out at (written s pool row start)
-          → left (Size size) new ≡ writeShape s row start pool out at
-      unfolding writeShape stored
-      write-whole h new p = rw (← ef, e) (simp (le-leb _ _ h) (ap (λ l. left (Size size) l) p))

@@ -14,7 +14,7 @@ use Rattle.fields.specs.declared.Refusal.{Refusal}
 use Rattle.fields.specs.declared.Refusal.the-variants.{Tag, Range, Text}
 use Rattle.fields.specs.declared.Flaw.{Flaw}
 use Rattle.fields.specs.declared.Flaw.the-variants.{Right, Wrong}
-use Rattle.fields.specs.Binary.{pick, word, chars, flag, slots, indexed}
+use Rattle.fields.specs.Binary.{pick, word, chars, indexed}
 use Rattle.fields.specs.Judge.{then, below, unused, value, optionalValue, named, optionalIndex, choice, optionalName, reference, flaw}
 
 -- a flaw stands at one of the field's words
@@ -189,15 +189,6 @@ options-absent pool ws a b c ea eb ec e =
     let x9 : word ws 9 ≡ 0 = omega arith in
     let x10 : word ws 10 ≡ 0 = omega arith in
     rw (slot-absent pool ws 2 x2 x3 x4, slot-absent pool ws 5 x5 x6 x7, slot-absent pool ws 8 x8 x9 x10)
-
-pub slots-absent : (ws : List ℕ) (a b c : ℕ) → a ≡ word ws 2 + word ws 3 + word ws 4 → b ≡ word ws 5 + word ws 6 + word ws 7
-    → c ≡ word ws 8 + word ws 9 + word ws 10 → a + b + c ≡ 0 → slots ws ≡ 0
-unfolding slots flag
-slots-absent ws a b c ea eb ec e =
-    let x2 : word ws 2 ≡ 0 = omega arith in
-    let x5 : word ws 5 ≡ 0 = omega arith in
-    let x8 : word ws 8 ≡ 0 = omega arith in
-    rw (x2, x5, x8)
 
 pub plain-flaw : (pool ws : List ℕ) (x : Flaw) → x ≡ named pool ws 0
     → then (optionalName pool ws 2) (then (optionalName pool ws 5) (optionalName pool ws 8)) ≡ Right → x ≡ flaw pool field.ExternName ws

@@ -519,18 +519,6 @@ module _ (lead g : ℕ) (input : List ℕ) where
             (sym (sym (one-fills lead g input field.OptionalIndex at (drop at input) refl) ∙ some .1 .1
             ∙ ap (λ l. 1 ∷ l) (one-fills lead g input field.Index (at + 1) (drop 1 (drop at input)) (drop-drop 1 at input)))))
 
-    pub primitive-has : Room (scans lead g input (field.Primitive ∷ []) at to) n
-        → Has lead g field.Primitive at (drop at input) 1 (primitive (getD input at 0) ∷ [])
-    unfolding scan fill
-    primitive-has room =
-        field-right lead g input field.Primitive at to n room
-        (Has lead g field.Primitive at (drop at input) 1 (primitive (getD input at 0) ∷ []))
-        (λ t m x.
-        let r = there-fine (drop at input) 0 _ t m x in (
-          simp (lt-leb (length (drop at input)) 0 (r .0), primitive-fine g (byte (drop at input) 0) (Fine 1 1) t m (r .1)),
-          ap (λ b. primitive b ∷ []) (byte-here input at),
-        ))
-
   -- ---- two fields behind a lead that makes no word
 
   module _ (s : Shape) (row : List ℕ) (room : Room (scanned lead g s input) (length row)) (a : ℕ) where

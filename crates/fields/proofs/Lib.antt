@@ -19,12 +19,10 @@ pub mod PutLaws
 pub mod QuickLaws
 pub mod ReadLaws
 pub mod RowLaws
-pub mod RowPutLaws
 pub mod RunLaws
 pub mod ScanLaws
 pub mod ScanOnly
 pub mod ScannedLaws
-pub mod SeenLaws
 pub mod SizeLaws
 pub mod StoreLaws
 pub mod StraightLaws

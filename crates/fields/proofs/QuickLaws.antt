@@ -32,10 +32,6 @@ use Rattle.fields.proofs.ScannedLaws.{scans, one-takes}
 
 -- ---- values
 
--- what is not seen
-pub unseen : (f : Field) (at : ℕ) (bs : List ℕ) (a b : ℕ) → Seen f at bs (record { took = 0; a = a; b = b })
-unseen f at bs a b k = absurd (omega arith)
-
 module _ (lead g at : ℕ) (bs : List ℕ) (h : 0 < length bs) (b : ℕ) (first : b ≡ byte bs 0) where
   value-index : b < 0x40 → Is lead g value at bs (record { took = 1; a = 1; b = b })
   unfolding scan scanValue fill fillValue

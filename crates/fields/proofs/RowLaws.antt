@@ -1,19 +1,13 @@
 -- The order in which a row is refused: for each way out of the code, what the definition says there.
 use Prim.Native.Nat.{ℕ, _≤_, _<_}
-use mathlib.Core.Path.{_≡_, refl, ap, _∙_}
-use mathlib.Core.Bool.{Bool, true, false}
+use mathlib.Core.Path.{_≡_}
 use mathlib.Core.List.{List}
-use lib.Dec.{eqb, ltb}
 use lib.ListN.{length}
 use borrow.Author.Tests.{lt-ltb, le-ltb, eq-eqb, ne-eqb}
 use Rattle.fields.specs.declared.Refusal.the-variants as refusal
-use Rattle.fields.specs.declared.Answer.{Answer}
-use Rattle.fields.specs.declared.Answer.the-variants.{Size, Refused}
+use Rattle.fields.specs.declared.Answer.the-variants.{Refused}
 use Rattle.fields.specs.declared.Found.{Found}
-use Rattle.fields.specs.declared.Found.the-variants.{Is, Not}
-use Rattle.fields.specs.declared.Shape.{Shape}
-use Rattle.fields.specs.Row.{measuredFound, measuredRow, rowBytes, writeRow}
-use Rattle.fields.specs.Write.{left, measured, written, stored, writeShape}
+use Rattle.fields.specs.Row.{measuredFound, measuredRow}
 
 module _ (found : Found) (row pool : List ℕ) where
   pub row-too-long : 16384 < length row → measuredRow found row pool ≡ Refused refusal.Limit 0
@@ -33,14 +27,3 @@ module _ (found : Found) (row pool : List ℕ) where
       pub row-shaped : (length row ≡ 0 → ⊥) → measuredRow found row pool ≡ measuredFound found row pool
       unfolding measuredRow
       row-shaped h = simp (le-ltb _ _ short, le-ltb _ _ small, ne-eqb _ _ h)
-
--- a refused row is not written, and one that has a shape is written by it
-pub row-refused : (found : Found) (row pool out : List ℕ) (at : ℕ) (w : _) (n : ℕ) → measuredRow found row pool ≡ Refused w n
-    → writeRow found row pool out at ≡ left (Refused w n) out
-unfolding writeRow stored
-row-refused found row pool out at w n e = rw e
-
-pub row-written : (s : Shape) (row pool out : List ℕ) (at : ℕ) → measuredRow (Is s) row pool ≡ measured s row 1 pool
-    → writeRow (Is s) row pool out at ≡ writeShape s row 1 pool out at
-unfolding writeRow writeShape rowBytes
-row-written s row pool out at e = rw e

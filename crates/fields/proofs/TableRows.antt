@@ -27,7 +27,7 @@ use Rattle.fields.specs.Shape.{opening, group, closing, repeated, widths
 use Rattle.fields.specs.Table.{Line, shapeIn, productionIn}
 use Rattle.fields.specs.Walk.{next, took}
 use Rattle.fields.specs.Write.{bytesAt, judged, written}
-use Rattle.fields.proofs.AnswerLaws.{Sized, sized-stays}
+use Rattle.fields.proofs.AnswerLaws.{Sized}
 use Rattle.fields.proofs.ByteLaws.{ByteList, none, append-bytes, to-bytes, of-bytes, drop-words, Byte, field-bytes}
 use Rattle.fields.proofs.PutLaws.{countedFields, later, allFields, judged-along, shape-written}
 use Rattle.fields.proofs.TableLaws.{Agrees, All, as-production}
@@ -187,6 +187,6 @@ row-of ls agree sounds row pool size e =
     bytes-of s k t fw fp =
         let fs = allFields s row 1 in
         let bs : List ℕ = makes (judge pool) (bytesAt pool) fs 1 (drop 1 row) in
-        let same : written s pool row 1 ≡ bs = shape-written s pool row 1 0 (written s pool row 1) (sized-stays k 0 (length (written s pool row 1)) (omega (arith, size-is-length k))) in
+        let same : written s pool row 1 ≡ bs = shape-written s pool row 1 (k .end) size (k .judges) in
         rw same
         (to-bytes (made-bytes pool fp fs (drop 1 row) 1 0 (k .end) size (drop-words 1 row fw) (sound-fields s row 1 t) (sym (judged-along s pool row 1) ∙ k .judges)))

@@ -23,7 +23,7 @@ use Rattle.fields.specs.Run.{along, makes, Under}
 use Rattle.fields.specs.Row.{measuredFound, measuredRow, rowBytes}
 use Rattle.fields.specs.Shape.{opening, group, closing, repeated, widths, rowWidth}
 use Rattle.fields.specs.Write.{bytesAt, judged, written, sized, measured}
-use Rattle.fields.proofs.AnswerLaws.{Sized, measured-sized, sized-stays}
+use Rattle.fields.proofs.AnswerLaws.{Sized, measured-sized}
 use Rattle.fields.proofs.PutLaws.{countedFields, later, allFields, row-groups, judged-along, shape-written}
 use Rattle.fields.proofs.RunLaws.{along-ends, along-bound}
 use Rattle.fields.proofs.WidthLaws.{widths-append, repeated-widths, repeated-length}
@@ -111,9 +111,8 @@ module _ {s : Shape} {row : List ℕ} {start : ℕ} {pool : List ℕ} {size : �
   size-is-length =
       let bs : List ℕ = makes (judge pool) (bytesAt pool) (allFields s row start) start (drop start row) in
       let n : size ≡ 0 + length bs = along-ends pool (allFields s row start) (drop start row) start 0 (k .end) size all .1 in
-      let room : 0 + size ≤ length bs = omega arith in
-      let m : length bs ≡ length (written s pool row start) = ap length (sym (shape-written s pool row start 0 bs (sized-stays k 0 (length bs) room))) in
-      omega arith
+      let m : written s pool row start ≡ bs = shape-written s pool row start (k .end) size (k .judges) in
+      omega (arith, ap length m)
 
   -- the walk reaches the row's end
   pub reaches-end : k .end ≡ length row

@@ -1,13 +1,11 @@
 -- What storing bytes leaves: bytes stored one after the other are one run, and the room of the whole is the room of each.
-use Prim.Native.Nat.{ℕ, _+_, _≤_, _<_}
+use Prim.Native.Nat.{ℕ, _+_, _≤_}
 use native.Mathlib.Omega.{arith}
 use mathlib.Core.Path.{_≡_, refl, ap, _∙_}
 use mathlib.Core.List.{List, [], _∷_, _++_}
-use borrow.Author.Tests.{lt-ltb}
 use lib.ListN.{length, length-append}
 use lib.Seq.{length-sets}
 use Rattle.numbers.proofs.BytesLaws.{sets-append, store-fits}
-use Rattle.numbers.specs.Leb.{bytesOf}
 use Rattle.numbers.specs.Bytes.{Left, left, store}
 use Rattle.numbers.specs.Numbers.{valueOf}
 use Rattle.numbers.specs.declared.bytes.Stored.{Stored}
@@ -59,11 +57,3 @@ pub of-stores :
 of-stores a b {l} {m} {n} {i} e v d w h =
     let one = of-store e v (room-first a b i (length l) h) in
     then one (of-store d w (room-then one b h))
-
--- a number of one byte
-pub short-number : (end n : ℕ) → n < end → bytesOf end 5 n ≡ n ∷ []
-unfolding bytesOf
-short-number end n h = simp (lt-ltb n end h)
-
-pub short-wrote : (end n : ℕ) → n < end → {l m : List ℕ} {i j : ℕ} → Wrote l i (n ∷ []) j m → Wrote l i (bytesOf end 5 n) j m
-short-wrote end n h w = rw (short-number end n h) w

@@ -23,7 +23,6 @@ use Rattle.fields.specs.declared.form.Close.the-variants as close
 use Rattle.fields.specs.declared.form.Form.{Form}
 use Rattle.fields.specs.declared.form.Form.the-variants as form
 use Rattle.fields.specs.Fill.{fill}
-use Rattle.fields.specs.Judge.{judge}
 use Rattle.fields.specs.Run.{along, makes}
 use Rattle.fields.specs.Scan.{scan}
 use Rattle.fields.specs.Shape.{widths}
@@ -78,10 +77,6 @@ foundIn form.Import = Is (formShape form.Import)
 foundIn form.Not = Not
 
 -- ---- what straight code says; 0 where it does not see that all is right
-
--- the fields from `at` on, with `made` bytes before them, make r bytes in all
-abbrev pub Sized : List ℕ → List Field → List ℕ → ℕ → ℕ → ℕ → Type 0
-Sized pool fs row at made r = 0 < r → along (judge pool) fs (drop at row) at made ≡ Fine (at + widths fs) r
 
 -- the fields from `at` on end at r, at every grade
 abbrev pub Past : List Field → List ℕ → ℕ → ℕ → Type 0

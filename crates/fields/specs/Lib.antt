@@ -8,7 +8,6 @@ pub mod Read
 pub mod Row
 pub mod Run
 pub mod Scan
-pub mod Seen
 pub mod Shape
 pub mod Size
 pub mod Table

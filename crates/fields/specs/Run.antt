@@ -24,14 +24,10 @@ abbrev pub after : Leaf → (ℕ → ℕ → Leaf) → Leaf
 after (Fine at made) k = k at made
 after (Bad w j) k = Bad w j
 
--- the walk reaches its end, and what it makes ends within n; the same where it is made from `to` on
+-- the walk reaches its end, and what it makes ends within n
 abbrev pub Room : Leaf → ℕ → Type 0
 Room (Fine at made) n = made ≤ n
 Room (Bad w j) n = ⊥
-
-abbrev pub Stays : Leaf → ℕ → ℕ → Type 0
-Stays (Fine at made) to n = to + made ≤ n
-Stays (Bad w j) to n = ⊥
 
 -- a walk that ends, ends at a or before, with b elements made at most
 abbrev pub Under : Leaf → ℕ → ℕ → Type 0

@@ -73,7 +73,7 @@ pub enum Form {
     Not,
 }
 
-pub fn plain_field(p: Plain) -> Field
+fn plain_field(p: Plain) -> Field
     ensures { λ r. ⌜ r ≡ plainField p ⌝ }
 {
     match p {

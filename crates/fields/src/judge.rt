@@ -1,12 +1,12 @@
-// Words to bytes, first pass: whether the words of a field are right.
+// Whether the words of a field are right.
 use crate::Field;
 use crate::Flaw;
 use crate::Refusal;
 ghost use mathlib.Core.Bool.{true};
 ghost use mathlib.Core.Path.{_≡_};
-ghost use Prim.Native.Nat.{_<_, _≤_, _+_, _^_};
+ghost use Prim.Native.Nat.{_<_, _+_, _^_};
 ghost use lib.ListN.{getD};
-ghost use Rattle.fields.specs.Binary.{indexed, slots};
+ghost use Rattle.fields.specs.Binary.{indexed};
 ghost use Rattle.fields.specs.Judge.{wide, then, below, unused, value, optionalValue, named, optionalIndex, choice, optionalName, reference, flaw};
 ghost use Rattle.fields.specs.declared.Flaw.the-variants.{Right};
 
@@ -44,7 +44,7 @@ pub fn word_at(ws: &[u32], i: usize) -> u32
     0
 }
 
-pub fn below_at(n: u32, ws: &[u32], i: usize) -> Flaw
+fn below_at(n: u32, ws: &[u32], i: usize) -> Flaw
     ensures { λ r. ⌜ r ≡ below n (now (ws .entry)) i ⌝ }
 {
     if word_at(ws, i) < n {
@@ -62,7 +62,7 @@ fn unused_at(ws: &[u32], i: usize) -> Flaw
     Flaw::Wrong(Refusal::Tag, i)
 }
 
-pub fn value_at(ws: &[u32], i: usize) -> Flaw
+fn value_at(ws: &[u32], i: usize) -> Flaw
     requires { ⌜ i < 2 ^ 42 ⌝ }
     ensures { λ r. ⌜ r ≡ value (now (ws .entry)) i ⌝ }
 {
@@ -76,7 +76,7 @@ pub fn value_at(ws: &[u32], i: usize) -> Flaw
     Flaw::Wrong(Refusal::Tag, i)
 }
 
-pub fn optional_value_at(ws: &[u32], i: usize) -> Flaw
+fn optional_value_at(ws: &[u32], i: usize) -> Flaw
     requires { ⌜ i < 2 ^ 42 ⌝ }
     ensures { λ r. ⌜ r ≡ optionalValue (now (ws .entry)) i ⌝ }
 {
@@ -86,7 +86,7 @@ pub fn optional_value_at(ws: &[u32], i: usize) -> Flaw
     value_at(ws, i)
 }
 
-pub fn named_at(pool: &[u8], ws: &[u32], i: usize) -> Flaw
+fn named_at(pool: &[u8], ws: &[u32], i: usize) -> Flaw
     requires { ⌜ i < 2 ^ 42 ⌝ }
     ensures { λ r. ⌜ r ≡ named (now (pool .entry)) (now (ws .entry)) i ⌝ }
 {
@@ -102,7 +102,7 @@ pub fn named_at(pool: &[u8], ws: &[u32], i: usize) -> Flaw
     Flaw::Wrong(Refusal::Range, i)
 }
 
-pub fn optional_index_of(ws: &[u32]) -> Flaw
+fn optional_index_of(ws: &[u32]) -> Flaw
     ensures { λ r. ⌜ r ≡ optionalIndex (now (ws .entry)) ⌝ }
 {
     let present = word_at(ws, 0);
@@ -182,9 +182,8 @@ fn three_at(ws: &[u32], i: usize) -> u64
 }
 
 // Whether no option is present, as in most imports: then none needs to be judged.
-pub fn is_plain(pool: &[u8], ws: &[u32]) -> bool
+fn is_plain(pool: &[u8], ws: &[u32]) -> bool
     ensures { λ r. ⌜ (r ≡ true → then (optionalName (now (pool .entry)) (now (ws .entry)) 2) (then (optionalName (now (pool .entry)) (now (ws .entry)) 5) (optionalName (now (pool .entry)) (now (ws .entry)) 8)) ≡ Right) ⌝ }
-    ensures { λ r. ⌜ (r ≡ true → slots (now (ws .entry)) ≡ 0) ⌝ }
 {
     if ws.len() < 11 {
         return false;
@@ -209,7 +208,7 @@ fn extern_name_of(pool: &[u8], ws: &[u32]) -> Flaw
     first_flaw(name, first_flaw(implements, first_flaw(suffix, id)))
 }
 
-pub fn reference_of(ws: &[u32]) -> Flaw
+fn reference_of(ws: &[u32]) -> Flaw
     ensures { λ r. ⌜ r ≡ reference (now (ws .entry)) ⌝ }
 {
     let sort = word_at(ws, 0);

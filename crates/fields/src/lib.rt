@@ -1,4 +1,4 @@
-// Fields of a row: each judged and put, scanned and filled, and the walk over the fields of a shape that serves every kind.
+// Fields of a row: each judged, scanned and filled, and the walk over the fields of a shape that serves every kind.
 mod fill;
 pub mod form;
 mod import_read;
@@ -6,10 +6,7 @@ mod item;
 mod item_fill;
 mod item_took;
 mod judge;
-mod put;
 pub mod row;
-mod row_put;
-mod row_size;
 mod scan;
 mod size;
 pub mod straight;
@@ -25,19 +22,15 @@ pub use form::Tail;
 pub use form::Unit;
 pub use item::first_of;
 pub use item::read_item;
+pub use judge::is_indexed;
 pub use row::kind_of;
 pub use row::many_of;
 pub use row::measure_row;
 pub use row::two_of;
-pub use row::write_row;
-pub use straight::measure_form;
 pub use straight::read_form;
 pub use straight::read_import;
-pub use straight::write_form;
-pub use straight::write_import;
 pub use wall::number_of;
 pub use write::measure_shape;
-pub use write::write_shape;
 
 // One field of a row, with its words and its bytes.
 pub enum Field {

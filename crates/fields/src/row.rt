@@ -5,12 +5,10 @@ use crate::Found;
 use crate::Refusal;
 use crate::Shape;
 use crate::write::measure_shape;
-use crate::write::write_shape;
 ghost use mathlib.Core.Path.{_≡_};
 ghost use lib.ListN.{getD};
-ghost use Rattle.fields.specs.Row.{measuredRow, writeRow};
+ghost use Rattle.fields.specs.Row.{measuredRow};
 ghost use Rattle.fields.specs.Table.{twoOf, manyOf};
-ghost use Rattle.fields.specs.Write.{left};
 
 // The kind of a row, 0 where it is empty.
 pub fn kind_of(row: &[u32]) -> u32
@@ -69,25 +67,6 @@ pub fn measure_row(found: Found, row: &[u32], pool: &[u8]) -> Answer
     }
     match found {
         Found::Is(shape) => measure_shape(shape, row, 1, pool),
-        Found::Not => Answer::Refused(Refusal::Kind, 0),
-    }
-}
-
-// The row written into out from `at` on.
-pub fn write_row(found: Found, row: &[u32], pool: &[u8], out: &mut [u8], at: usize) -> Answer
-    ensures { λ r. ⌜ left r (now (out .exit)) ≡ writeRow found (now (row .entry)) (now (pool .entry)) (now (out .entry)) at ⌝ }
-{
-    if 16384 < row.len() {
-        return Answer::Refused(Refusal::Limit, 0);
-    }
-    if 65536 < pool.len() {
-        return Answer::Refused(Refusal::Limit, 0);
-    }
-    if row.len() == 0 {
-        return Answer::Refused(Refusal::Row, 0);
-    }
-    match found {
-        Found::Is(shape) => write_shape(shape, row, 1, pool, out, at),
         Found::Not => Answer::Refused(Refusal::Kind, 0),
     }
 }

@@ -1,6 +1,5 @@
-// Rows and items of a form: straight code where it sees that all is right, and the general way where it does not. Imports have calls
+// Items of a form: straight code where it sees that all is right, and the general way where it does not. Imports have calls
 // of their own, so that nothing is left to choose there.
-use crate::Answer;
 use crate::Read;
 use crate::form::Form;
 use crate::form::found_of;
@@ -9,63 +8,12 @@ use crate::import_read::import_took;
 use crate::item::read_item;
 use crate::item_fill::fill_form;
 use crate::item_took::form_took;
-use crate::row::measure_row;
-use crate::row::write_row;
-use crate::row_put::put_form;
-use crate::row_put::put_import;
-use crate::row_size::form_seen;
-use crate::row_size::import_seen;
 ghost use Prim.Native.Nat.{_<_, _≤_, _^_};
 ghost use mathlib.Core.Bool.{true};
 ghost use mathlib.Core.Path.{_≡_};
 ghost use lib.ListN.{length};
 ghost use Rattle.fields.specs.Form.{foundIn};
 ghost use Rattle.fields.specs.Read.{leftRow, readItem};
-ghost use Rattle.fields.specs.Row.{measuredRow, writeRow};
-ghost use Rattle.fields.specs.Write.{left};
-
-// The size of a row of a form, or why it is refused, room apart.
-pub fn measure_form(form: Form, row: &[u32], pool: &[u8]) -> Answer
-    ensures { λ r. ⌜ r ≡ measuredRow (foundIn form) (now (row .entry)) (now (pool .entry)) ⌝ }
-{
-    measure_row(found_of(form), row, pool)
-}
-
-// The row written into out from `at` on.
-pub fn write_form(form: Form, row: &[u32], pool: &[u8], out: &mut [u8], at: usize) -> Answer
-    ensures { λ r. ⌜ left r (now (out .exit)) ≡ writeRow (foundIn form) (now (row .entry)) (now (pool .entry)) (now (out .entry)) at ⌝ }
-{
-    let size = form_seen(form, row, pool);
-    if 0 < size {
-        if at <= out.len() {
-            if size <= out.len() - at {
-                put_form(form, pool, row, out, at);
-                return Answer::Size(size);
-            }
-        }
-    }
-    write_row(found_of(form), row, pool, out, at)
-}
-
-// An import row written into out from `at` on.
-pub fn write_import(row: &[u32], pool: &[u8], out: &mut [u8], at: usize) -> Answer
-    ensures { λ r. ⌜ left r (now (out .exit)) ≡ writeRow (foundIn Form.Import) (now (row .entry)) (now (pool .entry)) (now (out .entry)) at ⌝ }
-{
-    if row.len() == 15 {
-        if pool.len() <= 65536 {
-            let size = import_seen(pool, row);
-            if 0 < size {
-                if at <= out.len() {
-                    if size <= out.len() - at {
-                        put_import(pool, row, out, at);
-                        return Answer::Size(size);
-                    }
-                }
-            }
-        }
-    }
-    write_row(found_of(Form::Import), row, pool, out, at)
-}
 
 // Whether an input and a grade pass no limit, and there is an input.
 fn is_within(grade: u32, input: &[u8]) -> bool

@@ -1,4 +1,4 @@
-// The walk over the fields of a shape: judged in the first pass, put in the second.
+// The walk over the fields of a shape, which judges them.
 use crate::Field;
 use crate::Flaw;
 use crate::Leaf;
@@ -6,20 +6,18 @@ use crate::Shape;
 use crate::judge::flaw_of;
 use crate::judge::wide_of;
 use crate::judge::word_at;
-use crate::put::put_field;
 use crate::size::size_of;
 ghost use mathlib.Core.Path.{_≡_};
 ghost use mathlib.Core.List.{_∷_, []};
 ghost use Prim.Native.Nat.{_<_, _≤_, _+_, _*_, _^_};
-ghost use lib.Seq.{sets};
 ghost use lib.ListN.{length, getD, drop};
 ghost use Rattle.fields.specs.Judge.{judge};
-ghost use Rattle.fields.specs.Run.{along, makes, after, Room, Stays, Under, Wrote};
-ghost use Rattle.fields.specs.Shape.{group, repeated, widths, rowWidth, counted, countedBytes};
-ghost use Rattle.fields.specs.Write.{judged, written, bytesAt};
+ghost use Rattle.fields.specs.Run.{along, after, Under};
+ghost use Rattle.fields.specs.Shape.{group, repeated, widths, rowWidth, counted};
+ghost use Rattle.fields.specs.Write.{judged};
 
 // The row from `at` on, nothing past its end.
-pub fn rest_of(row: &[u32], at: usize) -> &[u32]
+fn rest_of(row: &[u32], at: usize) -> &[u32]
     ensures { λ r. ⌜ now r ≡ drop at (now (row .entry)) ⌝ }
 {
     if at <= row.len() {
@@ -133,98 +131,4 @@ pub fn judge_shape(s: Shape, pool: &[u8], row: &[u32], start: usize) -> Leaf
         };
     }
     judge_next(opening, last, pool, row)
-}
-
-// One field that was judged: the place past its bytes.
-fn put_one(f: Field, pool: &[u8], row: &[u32], at: usize, out: &mut [u8], to: usize) -> usize
-    requires { ⌜ Room (along (judge (now pool)) (f ∷ []) (drop at (now row)) at to) (length (now out)) ⌝ }
-    ensures { λ r. ⌜ Wrote (now (out .entry)) to (makes (judge (now (pool .entry))) (bytesAt (now (pool .entry))) (f ∷ []) at (drop at (now (row .entry)))) r (now (out .exit)) ⌝ }
-{
-    put_field(f, pool, rest_of(row, at), out, to)
-}
-
-fn put_two(
-    a: Field,
-    b: Field,
-    pool: &[u8],
-    row: &[u32],
-    at: usize,
-    out: &mut [u8],
-    to: usize,
-) -> usize
-    requires { ⌜ at ≤ 2 ^ 40 ⌝ }
-    requires { ⌜ Room (along (judge (now pool)) (a ∷ b ∷ []) (drop at (now row)) at to) (length (now out)) ⌝ }
-    ensures { λ r. ⌜ Wrote (now (out .entry)) to (makes (judge (now (pool .entry))) (bytesAt (now (pool .entry))) (a ∷ b ∷ []) at (drop at (now (row .entry)))) r (now (out .exit)) ⌝ }
-{
-    let next = at + wide_of(a);
-    let size = put_one(a, pool, row, at, out, to);
-    put_one(b, pool, row, next, out, size)
-}
-
-fn put_groups(
-    s: Shape,
-    n: usize,
-    pool: &[u8],
-    row: &[u32],
-    from: usize,
-    out: &mut [u8],
-    base: usize,
-) -> usize
-    requires { ⌜ (n < 2 ^ 32) × (from ≤ 2 ^ 20) ⌝ }
-    requires { ⌜ Room (along (judge (now pool)) (repeated n (group s)) (drop from (now row)) from base) (length (now out)) ⌝ }
-    ensures { λ r. ⌜ Wrote (now (out .entry)) base (makes (judge (now (pool .entry))) (bytesAt (now (pool .entry))) (repeated n (group s)) from (drop from (now (row .entry)))) r (now (out .exit)) ⌝ }
-{
-    let one = s.one;
-    let two = s.two;
-    let each = wide_of(one) + wide_of(two);
-    let mut at = from;
-    let mut to = base;
-    let mut i: usize = 0;
-    while i < n {
-        to = put_two(one, two, pool, row, at, out, to);
-        at += each;
-        i += 1;
-    }
-    to
-}
-
-// The count at `at`, as many groups, and the closing.
-fn put_counted(s: Shape, pool: &[u8], row: &[u32], at: usize, out: &mut [u8], to: usize) -> usize
-    requires { ⌜ getD (now row) at 0 * widths (group s) ≤ 16384 ⌝ }
-    requires { ⌜ at < 2 ^ 20 ⌝ }
-    requires { ⌜ Room (counted (judge (now pool)) s (now row) at to) (length (now out)) ⌝ }
-    ensures { λ r. ⌜ Wrote (now (out .entry)) to (countedBytes (judge (now (pool .entry))) (bytesAt (now (pool .entry))) s (now (row .entry)) at) r (now (out .exit)) ⌝ }
-{
-    let count = word_at(row, at);
-    let last = s.last;
-    let one = s.one;
-    let two = s.two;
-    let first = at + 1;
-    let n = count as usize;
-    let end = first + n * (wide_of(one) + wide_of(two));
-    let groups = put_one(Field::Index, pool, row, at, out, to);
-    let closing = put_groups(s, n, pool, row, first, out, groups);
-    put_one(last, pool, row, end, out, closing)
-}
-
-// The fields of a row from `start` on, which were judged.
-pub fn put_shape(s: Shape, pool: &[u8], row: &[u32], start: usize, out: &mut [u8], to: usize)
-    requires { ⌜ (rowWidth s (now row) start ≡ length (now row)) × (length (now row) ≤ 16384) ⌝ }
-    requires { ⌜ Stays (judged s (now pool) (now row) start) to (length (now out)) ⌝ }
-    ensures { λ _. ⌜ now (out .exit) ≡ sets (now (out .entry)) to (written s (now (pool .entry)) (now (row .entry)) start) ⌝ }
-{
-    let lead = s.lead;
-    let zero = s.zero;
-    let first = s.first;
-    let second = s.second;
-    let last = s.last;
-    let middle = start + wide_of(lead) + wide_of(zero);
-    let end = middle + wide_of(first) + wide_of(second);
-    let leads = put_two(lead, zero, pool, row, start, out, to);
-    let opening = put_two(first, second, pool, row, middle, out, leads);
-    if s.counted {
-        put_counted(s, pool, row, end, out, opening);
-    } else {
-        put_one(last, pool, row, end, out, opening);
-    }
 }

@@ -1,4 +1,4 @@
-// A row of a shape: its size, and its bytes.
+// A row of a shape: its size.
 use crate::Answer;
 use crate::Leaf;
 use crate::Refusal;
@@ -6,12 +6,11 @@ use crate::Shape;
 use crate::judge::wide_of;
 use crate::judge::word_at;
 use crate::walk::judge_shape;
-use crate::walk::put_shape;
 ghost use mathlib.Core.Path.{_≡_};
 ghost use Prim.Native.Nat.{_≤_, _+_};
 ghost use lib.ListN.{length};
 ghost use Rattle.fields.specs.Shape.{rowWidth};
-ghost use Rattle.fields.specs.Write.{left, judged, sized, measured, writeShape};
+ghost use Rattle.fields.specs.Write.{judged, sized, measured};
 
 fn width_of(s: Shape, row: &[u32], start: usize) -> usize
     requires { ⌜ start ≤ 16384 ⌝ }
@@ -66,30 +65,4 @@ pub fn measure_shape(s: Shape, row: &[u32], start: usize, pool: &[u8]) -> Answer
         return measure_fields(s, row, start, pool);
     }
     Answer::Refused(Refusal::Row, 0)
-}
-
-// A row's fields from `start` on, written into out from `at` on: judged whole, room included, before a byte is stored.
-pub fn write_shape(
-    s: Shape,
-    row: &[u32],
-    start: usize,
-    pool: &[u8],
-    out: &mut [u8],
-    at: usize,
-) -> Answer
-    ensures { λ r. ⌜ left r (now (out .exit)) ≡ writeShape s (now (row .entry)) start (now (pool .entry)) (now (out .entry)) at ⌝ }
-{
-    match measure_shape(s, row, start, pool) {
-        Answer::Size(size) => {
-            if out.len() < at {
-                return Answer::Refused(Refusal::Room, size);
-            }
-            if out.len() - at < size {
-                return Answer::Refused(Refusal::Room, size);
-            }
-            put_shape(s, pool, row, start, out, at);
-            Answer::Size(size)
-        }
-        Answer::Refused(why, value) => Answer::Refused(why, value),
-    }
 }

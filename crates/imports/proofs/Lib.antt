@@ -1,3 +1,5 @@
+pub mod ExternLaws
+pub mod ImportLaws
 pub mod Productions
 pub mod ReadLaws
 pub mod Rows

@@ -1,8 +1,11 @@
 // Kind 17: the imports of the component binary document.
+mod straight;
+
 use fields::Answer;
 use fields::Field;
 use fields::Found;
 use fields::Read;
+use fields::Refusal;
 ghost use mathlib.Core.Path.{_≡_};
 ghost use Rattle.fields.specs.Read.{leftRow};
 ghost use Rattle.fields.specs.Write.{left};
@@ -28,18 +31,30 @@ fn shape_of(kind: u32) -> Found
 pub fn measure(row: &[u32], pool: &[u8]) -> Answer
     ensures { λ r. ⌜ r ≡ measuredImport (now (row .entry)) (now (pool .entry)) ⌝ }
 {
-    let shape = shape_of(fields::kind_of(row));
-    fields::measure_row(shape, row, pool)
+    let kind = fields::kind_of(row);
+    if kind == 17 {
+        let size = straight::import_size(row, pool);
+        if 0 < size {
+            return Answer::Size(size);
+        }
+    }
+    fields::measure_row(shape_of(kind), row, pool)
 }
 
 // An import row judged beside its pool, and written into out from `at` on.
 pub fn write(row: &[u32], pool: &[u8], out: &mut [u8], at: usize) -> Answer
     ensures { λ r. ⌜ left r (now (out .exit)) ≡ writeImport (now (row .entry)) (now (pool .entry)) (now (out .entry)) at ⌝ }
 {
-    if fields::kind_of(row) == 17 {
-        return fields::write_import(row, pool, out, at);
+    match measure(row, pool) {
+        Answer::Size(size) => {
+            if writing::fits(size, at, out.len()) {
+                straight::put_import(row, pool, out, at);
+                return Answer::Size(size);
+            }
+            Answer::Refused(Refusal::Room, size)
+        }
+        Answer::Refused(why, value) => Answer::Refused(why, value),
     }
-    fields::write_row(Found::Not, row, pool, out, at)
 }
 
 // The import at the front of the input, filled into the row, which names its strings in the input itself (`numbers::part`).

@@ -7,4 +7,5 @@ mod Shortest
 mod TextChunks
 pub mod TextLaws
 mod TextRows
+mod ThreeBytes
 mod Vectors

@@ -4,16 +4,17 @@ use native.Mathlib.Omega.{arith}
 use mathlib.Core.Path.{_≡_, refl, ap, _∙_}
 use mathlib.Core.Bool.{Bool, true, false}
 use mathlib.Core.List.{List, [], _∷_, _++_, append-nil}
-use lib.Dec.{eqb}
+use lib.Dec.{eqb, ltb}
 use lib.ListN.{length, drop, length-append}
 use Rattle.fields.specs.declared.Answer.{Answer}
-use Rattle.fields.specs.declared.Answer.the-variants.{Size}
+use Rattle.fields.specs.declared.Answer.the-variants.{Size, Refused}
 use Rattle.fields.specs.declared.Field.the-variants as field
 use Rattle.fields.specs.declared.Found.{Found}
 use Rattle.fields.specs.declared.Found.the-variants.{Is}
+use Rattle.fields.specs.declared.Refusal.the-variants as refusal
 use Rattle.fields.specs.Binary.{pick, word, bytes, canonopt}
 use Rattle.fields.specs.Judge.{wide}
-use Rattle.fields.specs.Row.{measuredRow, rowBytes, writeRow}
+use Rattle.fields.specs.Row.{measuredFound, measuredRow, rowBytes, writeRow}
 use Rattle.fields.specs.Shape.{repeated, widths, rowWidth}
 use Rattle.fields.specs.Table.{shapeIn, elements}
 use Rattle.fields.specs.Write.{stored, written}
@@ -26,7 +27,10 @@ use Rattle.imports.specs.Write as imports
 use Rattle.imports.specs.Write.{measuredImport, writeImport}
 use Rattle.canonicals.specs.Table.{table, liftShape, lift}
 use Rattle.canonicals.specs.Write.{measuredCanonical, canonicalBytes, writeCanonical}
+use Rattle.sections.specs.declared.Phase.{Phase}
+use Rattle.sections.specs.declared.Section.{Section}
 use Rattle.sections.specs.Section.{measuredFamily, familyBytes, writeFamily}
+use Rattle.sections.specs.Steps.{refuse, wrote}
 
 pub family-stored : (family : ℕ) (row pool body : List ℕ) (at : ℕ)
     → writeFamily family row pool body at ≡ stored (measuredFamily family row pool) (familyBytes family pool row) body at
@@ -43,6 +47,54 @@ family-stored family row pool body at = go (eqb family 7) (eqb family 8)
     go true b = refl
     go false true = refl
     go false false = refl
+
+-- ---- LIMIT: a row's writer tests for it as the row's step does
+
+abbrev limited : {X : Type 0} → List ℕ → List ℕ → X → X → X
+limited row pool limit x = pick (ltb 16384 (length row)) limit (pick (ltb 65536 (length pool)) limit x)
+
+row-limited : (found : Found) (row pool : List ℕ) → limited row pool (Refused refusal.Limit 0) (measuredRow found row pool) ≡ measuredRow found row pool
+unfolding measuredRow
+row-limited found row pool =
+    go (ltb 16384 (length row)) (ltb 65536 (length pool)) (pick (eqb (length row) 0) (Refused refusal.Row 0) (measuredFound found row pool))
+  where
+    twice : Bool → Bool → Answer → Answer
+    twice x y a = pick x (Refused refusal.Limit 0) (pick y (Refused refusal.Limit 0) a)
+
+    go : (x y : Bool) (a : Answer) → twice x y (twice x y a) ≡ twice x y a
+    go true y a = refl
+    go false true a = refl
+    go false false a = refl
+
+family-limited : (family : ℕ) (row pool : List ℕ)
+    → limited row pool (Refused refusal.Limit 0) (measuredFamily family row pool) ≡ measuredFamily family row pool
+unfolding measuredFamily measuredType measuredCanonical measuredImport
+family-limited family row pool = go (eqb family 7) (eqb family 8)
+  where
+    go : (a b : Bool)
+        → limited row pool (Refused refusal.Limit 0) (pick a (measuredType row pool) (pick b (measuredCanonical row pool) (measuredImport row pool)))
+        ≡ pick a (measuredType row pool) (pick b (measuredCanonical row pool) (measuredImport row pool))
+    go true b = row-limited _ row pool
+    go false true = row-limited _ row pool
+    go false false = row-limited _ row pool
+
+pub wrote-limited : (s : Section) (count : ℕ) (phase : Phase) (row pool body : List ℕ)
+    → limited row pool (refuse s refusal.Limit body) (wrote s count phase (writeFamily (s .family) row pool body (s .used)))
+    ≡ wrote s count phase (writeFamily (s .family) row pool body (s .used))
+unfolding stored
+wrote-limited s count phase row pool body =
+    rw (family-stored (s .family) row pool body (s .used))
+    (go (ltb 16384 (length row)) (ltb 65536 (length pool)) (measuredFamily (s .family) row pool)
+    ∙ ap (λ a. wrote s count phase (stored a (familyBytes (s .family) pool row) body (s .used))) (family-limited (s .family) row pool))
+  where
+    go : (x y : Bool) (a : Answer)
+        → pick x (refuse s refusal.Limit body)
+        (pick y (refuse s refusal.Limit body) (wrote s count phase (stored a (familyBytes (s .family) pool row) body (s .used))))
+        ≡ wrote s count phase
+        (stored (pick x (Refused refusal.Limit 0) (pick y (Refused refusal.Limit 0) a)) (familyBytes (s .family) pool row) body (s .used))
+    go true y a = refl
+    go false true a = refl
+    go false false a = refl
 
 -- ---- sizes
 

@@ -1,18 +1,12 @@
 // A section that is being put together: a state by value over a lent body. Each step takes the state and hands the new one back with
 // its answer; a refusal changes neither state nor body.
 use fields::Answer;
-use fields::Field;
 use fields::Refusal;
-use fields::Shape;
-use numbers::Stored;
 ghost use mathlib.Core.Path.{_≡_};
-ghost use mathlib.Core.List.{_∷_, []};
 ghost use Prim.Native.Nat.{_<_, _≤_};
-ghost use lib.ListN.{length, take};
+ghost use lib.ListN.{length};
 ghost use lib.Seq.{sets};
-ghost use Rattle.numbers.specs.Numbers.{valueOf};
-ghost use Rattle.fields.specs.Table.{twoOf, manyOf};
-ghost use Rattle.fields.specs.Write.{left, writeShape};
+ghost use Rattle.fields.specs.Write.{left};
 ghost use Rattle.sections.specs.Section.{fresh, knownFamily, holdsAt, sounds, opened, writeFamily};
 ghost use Rattle.sections.specs.Steps.{turned, refused, withdrawn, Fits, taken, rowing, opening, asyncing, paraming, resulting, abandoning};
 ghost use Rattle.sections.specs.Finish.{framed, framing, finishing};
@@ -226,7 +220,7 @@ impl Section {
         }
         match phase {
             Phase::Opened(start) => {
-                let answer = write_alone(Field::Async, a, 0, 1, body, used);
+                let answer = types::write_async(a, body, used);
                 self.after(answer, count, Phase::Asynced(start))
             }
             Phase::Closed => self.refuse(Refusal::Order, 0),
@@ -253,11 +247,11 @@ impl Section {
         }
         match phase {
             Phase::Opened(start) => {
-                let answer = write_params(Field::Fixed(0x40), words, pool, body, used);
+                let answer = types::write_params(true, words, pool, body, used);
                 self.after(answer, count, Phase::Parametered(start))
             }
             Phase::Asynced(start) => {
-                let answer = write_params(Field::Nothing, words, pool, body, used);
+                let answer = types::write_params(false, words, pool, body, used);
                 self.after(answer, count, Phase::Parametered(start))
             }
             Phase::Closed => self.refuse(Refusal::Order, 0),
@@ -277,7 +271,7 @@ impl Section {
         }
         match phase {
             Phase::Parametered(_) => {
-                let answer = write_alone(Field::Result, tag, x, 2, body, used);
+                let answer = types::write_result(tag, x, body, used);
                 self.after(answer, count, Phase::Closed)
             }
             Phase::Closed => self.refuse(Refusal::Order, 0),
@@ -338,61 +332,15 @@ impl Section {
     }
 }
 
-// A field alone, its words a and, where it has two, b.
-fn write_alone(f: Field, a: u32, b: u32, n: usize, body: &mut [u8], at: usize) -> Answer
-    requires { ⌜ n ≤ 2 ⌝ }
-    ensures { λ r. ⌜ left r (now (body .exit)) ≡ writeShape (twoOf Field.Nothing Field.Nothing f Field.Nothing) (take n (a ∷ b ∷ [])) 0 [] (now (body .entry)) at ⌝ }
-{
-    let words = [a, b];
-    let pool = [0u8; 1];
-    let shape = Shape {
-        lead: Field::Nothing,
-        zero: Field::Nothing,
-        first: f,
-        second: Field::Nothing,
-        counted: false,
-        one: Field::Nothing,
-        two: Field::Nothing,
-        last: Field::Nothing,
-    };
-    fields::write_shape(shape, &words[..n], 0, &pool[..0], body, at)
-}
-
-// A count and as many parameters, behind a byte or none.
-fn write_params(lead: Field, words: &[u32], pool: &[u8], body: &mut [u8], at: usize) -> Answer
-    ensures { λ r. ⌜ left r (now (body .exit)) ≡ writeShape (manyOf lead Field.Nothing Field.Nothing Field.Name Field.Value Field.Nothing) (now (words .entry)) 0 (now (pool .entry)) (now (body .entry)) at ⌝ }
-{
-    let shape = Shape {
-        lead: lead,
-        zero: Field::Nothing,
-        first: Field::Nothing,
-        second: Field::Nothing,
-        counted: true,
-        one: Field::Name,
-        two: Field::Value,
-        last: Field::Nothing,
-    };
-    fields::write_shape(shape, words, 0, pool, body, at)
-}
-
 // The bytes of a section: id, size, count, body.
 fn put_frame(family: u8, size: u32, count: u32, body: &[u8], out: &mut [u8])
     requires { ⌜ length (framed family size count (now body)) ≤ length (now out) ⌝ }
     ensures { λ _. ⌜ now (out .exit) ≡ sets (now (out .entry)) 0 (framed family size count (now (body .entry))) ⌝ }
 {
     out[0] = family;
-    let counted = 1 + stored_size(numbers::put_unsigned(size, 1, out));
-    let start = counted + stored_size(numbers::put_unsigned(count, counted, out));
+    let counted = 1 + numbers::stored_size(numbers::put_unsigned(size, 1, out));
+    let start = counted + numbers::stored_size(numbers::put_unsigned(count, counted, out));
     numbers::copy(body, start, out);
-}
-
-fn stored_size(s: Stored) -> usize
-    ensures { λ r. ⌜ r ≡ valueOf s ⌝ }
-{
-    match s {
-        Stored::Size(n) => n,
-        Stored::Room(n) => n,
-    }
 }
 
 // The section of a family, a count and a body, at the front of out.

@@ -1,19 +1,18 @@
 -- The laws of `specs/Frame.antt`: the words of a row, and the rows from a place to the sheet's end, a row at a time.
 use Prim.Native.Nat.{ℕ, zero, suc, _+_, _-_, _*_, _≤_, _<_}
-use native.Mathlib.Numerals.{add-one}
 use native.Mathlib.Omega.{arith}
 use mathlib.Core.Path.{_≡_, refl, sym, ap, _∙_}
 use mathlib.Core.Bool.{Bool, true, false}
 use mathlib.Core.List.{List, [], _∷_, _++_}
 use borrow.Author.Tests.{eqb-true, eqb-false, ltb-true, ltb-false, eq-eqb, ne-eqb, lt-ltb, le-ltb}
 use lib.Dec.{eqb, ltb}
-use lib.ListN.{length, take, set, getD}
+use lib.ListN.{length, take, set, getD, length-append}
 use lib.Seq.{sets}
 use Rattle.numbers.proofs.BytesLaws.{sets-append, sets-back}
 use Rattle.fields.specs.Binary.{word}
 use Rattle.sheets.specs.Frame.{Rows, Are, Broken, behind, some, number, words, rowsFrom, framed, poolLength}
 use Rattle.sheets.specs.Sheet.{familyOf}
-use Rattle.sheets.specs.Steps.{rest, whole, listed, Framed, RowsAt, firstFamily}
+use Rattle.sheets.specs.Steps.{rest, whole, listed, Framed, RowsAt, laid, firstFamily}
 
 -- ---- words
 
@@ -22,23 +21,26 @@ unfolding words
 words-length s at zero = refl
 words-length s at (suc n) = ap suc (words-length s (at + 4) n)
 
--- one word more, behind the others
-pub words-more : (s : List ℕ) (at n : ℕ) → words s at (suc n) ≡ words s at n ++ number s (at + 4 * n) ∷ []
+words-both : (s : List ℕ) (at m n : ℕ) → words s at (m + n) ≡ words s at m ++ words s (at + 4 * m) n
 unfolding words
-words-more s at zero =
+words-both s at zero n =
     let e : at ≡ at + 4 * 0 = omega arith in
-    ap (λ k. number s k ∷ []) e
-words-more s at (suc n) =
-    let e : at + 4 + 4 * n ≡ at + 4 * suc n = omega arith in
-    ap (λ l. number s at ∷ l) (words-more s (at + 4) n ∙ ap (λ k. words s (at + 4) n ++ number s k ∷ []) e)
+    let f : 0 + n ≡ n = omega arith in
+    λ i. words s (e i) (f i)
+words-both s at (suc m) n =
+    let e : at + 4 + 4 * m ≡ at + 4 * suc m = omega arith in
+    let f : suc m + n ≡ suc (m + n) = omega arith in
+    ap (words s at) f ∙ ap (λ l. number s at ∷ l) (words-both s (at + 4) m n ∙ ap (λ k. words s (at + 4) m ++ words s k n) e)
 
+-- one word more, behind the others
 pub laid-more : (s first row : List ℕ) (at i x : ℕ) → row ≡ sets first 0 (words s at i) → x ≡ number s (at + 4 * i)
     → set row i x ≡ sets first 0 (words s at (i + 1))
+unfolding words
 laid-more s first row at i x e ex =
     let l : 0 + length (words s at i) ≡ i = omega (arith, words-length s at i) in
     (λ k. set (e k) i (ex k)) ∙ ap (λ k. set (sets first 0 (words s at i)) k (number s (at + 4 * i))) (sym l)
     ∙ sets-append (words s at i) (number s (at + 4 * i) ∷ []) first 0
-    ∙ rw (add-one, words-more)
+    ∙ ap (sets first 0) (sym (words-both s at i 1))
 
 -- the family of a row is that of its first word, or of 0 where there is none
 first-word : (s : List ℕ) (at n : ℕ) → (n ≡ 0 → ⊥) → word (words s at n) 0 ≡ number s at
@@ -183,31 +185,39 @@ module _ {s : List ℕ} {at : ℕ} (f : Framed s at) where
   pub no-more : length s ≤ at → listed (rest s at) ≡ []
   no-more h = ap listed (rest-done s at (let i = f .inside in omega arith))
 
--- how many words rows take, their counts included
-unfoldable pub spread : List (List ℕ) → ℕ
-spread [] = 0
-spread (row ∷ rows) = 1 + length row + spread rows
+-- the words from `at` to the end are those rows
+pub record Layout (s : List ℕ) (at : ℕ) (rows : List (List ℕ)) : Type 0 where
+  pub long : at + 4 * length (laid rows) ≡ length s
+  pub same : words s at (length (laid rows)) ≡ laid rows
 
-pub spread-rows : (rows : List (List ℕ)) → length rows ≤ spread rows
-unfolding spread
-spread-rows [] = omega arith
-spread-rows (row ∷ rows) = omega (arith, spread-rows rows)
+layout-none : (s : List ℕ) (at : ℕ) → at ≡ length s → Layout s at []
+unfolding laid words
+layout-none s at e = record { long = omega arith; same = refl }
 
--- and so many bytes are left, where k is enough
-bytes-left : (s : List ℕ) (k at : ℕ) → length s ≤ at + k → Framed s at → at + 4 * spread (listed (rest s at)) ≡ length s
-unfolding spread
-bytes-left s zero at p f = let i = f .inside in rw (no-more f (omega arith)) (omega arith)
-bytes-left s (suc k) at p f = go (ltb at (length s)) refl (λ i. bytes-left s k (past s at) (omega arith) i)
+layout-one : (s : List ℕ) (at : ℕ) (rows : List (List ℕ)) → Layout s (past s at) rows → Layout s at (words s (at + 4) (number s at) ∷ rows)
+unfolding laid words
+layout-one s at rows w =
+    let n = number s at in
+    let row = words s (at + 4) n in
+    let l : length row ≡ n = words-length s (at + 4) n in
+    let k : length (row ++ laid rows) ≡ n + length (laid rows) = length-append row (laid rows) ∙ ap (λ i. i + length (laid rows)) l in
+    record {
+      long = omega (arith, w .long);
+      same = λ i. sym l i ∷ (ap (words s (at + 4)) k ∙ words-both s (at + 4) n (length (laid rows)) ∙ ap (λ ws. row ++ ws) (w .same)) i;
+    }
+
+-- where k is enough
+layout-from : (s : List ℕ) (k at : ℕ) → length s ≤ at + k → Framed s at → Layout s at (listed (rest s at))
+layout-from s zero at p f = let i = f .inside in rw (no-more f (omega arith)) (layout-none s at (omega arith))
+layout-from s (suc k) at p f = go (ltb at (length s)) refl (λ i. layout-from s k (past s at) (omega arith) i)
   where
-    go : (b : Bool) → ltb at (length s) ≡ b → (Framed s (past s at) → past s at + 4 * spread (listed (rest s (past s at))) ≡ length s)
-        → at + 4 * spread (listed (rest s at)) ≡ length s
-    go true e ih =
-        let row = front f (ltb-true _ _ e) in
-        rw (row .rows) (omega (arith, ih (row .next), words-length s (at + 4) (number s at)))
-    go false e ih = let i = f .inside in let h : length s ≤ at = ltb-false _ _ e in rw (no-more f h) (omega arith)
+    go : (b : Bool) → ltb at (length s) ≡ b → (Framed s (past s at) → Layout s (past s at) (listed (rest s (past s at))))
+        → Layout s at (listed (rest s at))
+    go true e ih = let row = front f (ltb-true _ _ e) in rw (row .rows) (layout-one s at _ (ih (row .next)))
+    go false e ih = let i = f .inside in let h : length s ≤ at = ltb-false _ _ e in rw (no-more f h) (layout-none s at (omega arith))
 
-pub rows-spread : (s : List ℕ) (at : ℕ) → Framed s at → at + 4 * spread (listed (rest s at)) ≡ length s
-rows-spread s at f = bytes-left s (length s) at (omega arith) f
+pub frame-layout : (s : List ℕ) (at : ℕ) → Framed s at → Layout s at (listed (rest s at))
+frame-layout s at f = layout-from s (length s) at (omega arith) f
 
 -- ---- the whole frame
 

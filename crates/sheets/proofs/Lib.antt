@@ -1,5 +1,7 @@
 pub mod FamilyLaws
 pub mod FinishLaws
 pub mod FrameLaws
+pub mod LaidLaws
+pub mod MakeLaws
 pub mod SheetLaws
 mod Whole

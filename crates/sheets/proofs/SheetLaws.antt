@@ -20,61 +20,58 @@ use Rattle.fields.specs.Run.{Wrote}
 use Rattle.fields.specs.Write as leaves
 use Rattle.fields.proofs.WroteLaws.{same-size}
 use Rattle.sections.specs.Section.{writeFamily}
-use Rattle.sheets.specs.Frame.{number, words}
 use Rattle.sections.specs.Section.{measuredFamily, familyBytes}
 use Rattle.sheets.specs.Sheet.{tried, tries, joined}
-use Rattle.sheets.specs.Steps.{rest, listed, Framed, Fits, Passed}
+use Rattle.sheets.specs.Steps.{laid, rowsIn, InRows, Fits, Passed}
 use Rattle.sheets.proofs.FamilyLaws.{family-row, family-written}
-use Rattle.sheets.proofs.FrameLaws.{past, front, no-more, spread}
+use Rattle.sheets.proofs.LaidLaws.{Here, endOf, rowAt, no-rows, turn}
 
 -- ---- trying
 
-module _ (family : ℕ) (pool : List ℕ) (room : ℕ) (s : List ℕ) (start : ℕ) where
+module _ (family : ℕ) (pool : List ℕ) (room : ℕ) (ws : List ℕ) where
   abbrev all : List (List ℕ) → ℕ → ℕ → Leaf
   all rows r used = tries family pool room rows r used
 
   -- with r rows tried, those from `at` on come to what all come to
   pub record Trying (at r used : ℕ) : Type 0 where
-    pub framed : Framed s at
+    pub later : List (List ℕ)
+    pub here : Here ws at later
     pub few : r ≤ at
     pub fits : used ≤ room
-    pub same : all (listed (rest s start)) 0 0 ≡ all (listed (rest s at)) r used
+    pub same : all (rowsIn ws) 0 0 ≡ all later r used
 
-  pub try-start : Framed s start → Trying start 0 0
-  try-start f = record { framed = f; few = omega arith; fits = omega arith; same = refl }
+  pub try-start : InRows ws → Trying 0 0 0
+  try-start e = record { later = rowsIn ws; here = e; few = omega arith; fits = omega arith; same = refl }
 
   module _ {at r used : ℕ} (t : Trying at r used) where
-    pub try-end : length s ≤ at → Fine r used ≡ all (listed (rest s start)) 0 0
+    pub try-end : length ws ≤ at → Fine r used ≡ all (rowsIn ws) 0 0
     unfolding tries
-    try-end h = sym (t .same ∙ ap (λ rows. all rows r used) (no-more (t .framed) h))
+    try-end h = sym (t .same ∙ ap (λ rows. all rows r used) (no-rows ws (t .here) h))
 
     -- one row more, and its answer
-    module _ (h : at < length s) {n : ℕ} (en : n ≡ number s at) {a : Answer} (ea : a ≡ measuredFamily family (words s (at + 4) n) pool) where
-      turn : all (listed (rest s start)) 0 0 ≡ tried a room used r (λ u. all (listed (rest s (past s at))) (r + 1) u)
-      unfolding tries
-      turn =
-          t .same ∙ ap (λ rows. all rows r used) (front (t .framed) h .rows)
-          ∙ ap (λ k. tried (measuredFamily family (words s (at + 4) k) pool) room used r (λ u. all (listed (rest s (past s at))) (r + 1) u)) (sym en)
-          ∙ ap (λ x. tried x room used r (λ u. all (listed (rest s (past s at))) (r + 1) u)) (sym ea)
+    module _ (h : at < length ws) {a : Answer} (ea : a ≡ measuredFamily family (rowAt ws at) pool) where
+      abbrev behind : ℕ → Leaf
+      behind u = all (turn ws (t .here) h .later) (r + 1) u
 
-      pub try-refused : {w : Refusal} {v : ℕ} → a ≡ Refused w v → Bad w r ≡ all (listed (rest s start)) 0 0
-      try-refused e = sym (turn ∙ ap (λ x. tried x room used r (λ u. all (listed (rest s (past s at))) (r + 1) u)) e)
+      answers : {b : Answer} → a ≡ b → all (rowsIn ws) 0 0 ≡ tried b room used r behind
+      unfolding tries
+      answers e = t .same ∙ ap (λ rows. all rows r used) (turn ws (t .here) h .are) ∙ ap (λ x. tried x room used r behind) (sym ea ∙ e)
+
+      pub try-refused : {w : Refusal} {v : ℕ} → a ≡ Refused w v → Bad w r ≡ all (rowsIn ws) 0 0
+      try-refused e = sym (answers e)
 
       module _ {size : ℕ} (e : a ≡ Size size) where
-        sized : all (listed (rest s start)) 0 0
-            ≡ pick (leb (used + size) room) (all (listed (rest s (past s at))) (r + 1) (used + size)) (Bad refusal.Room r)
-        sized = turn ∙ ap (λ x. tried x room used r (λ u. all (listed (rest s (past s at))) (r + 1) u)) e
+        pub try-cramped : room < used + size → Bad refusal.Room r ≡ all (rowsIn ws) 0 0
+        try-cramped k = sym (answers e ∙ simp (lt-leb _ _ k))
 
-        pub try-cramped : room < used + size → Bad refusal.Room r ≡ all (listed (rest s start)) 0 0
-        try-cramped k = sym (sized ∙ simp (lt-leb _ _ k))
-
-        pub try-next : used + size ≤ room → (next : ℕ) → next ≡ past s at → Trying next (r + 1) (used + size)
-        try-next k next p =
+        pub try-next : used + size ≤ room → Trying (endOf ws at) (r + 1) (used + size)
+        try-next k =
             record {
-              framed = rw p (front (t .framed) h .next);
+              later = turn ws (t .here) h .later;
+              here = turn ws (t .here) h .next;
               few = omega (arith, t .few);
               fits = k;
-              same = sized ∙ simp (le-leb _ _ k) (ap (λ q. all (listed (rest s q)) (r + 1) (used + size)) (sym p));
+              same = answers e ∙ simp (le-leb _ _ k);
             }
 
 -- ---- rows that were all taken
@@ -109,10 +106,10 @@ module _ (family : ℕ) (pool : List ℕ) (room : ℕ) where
     pub count : last ≡ r + length rows
     pub long : end ≡ used + length (joined family pool rows)
     pub fits : end ≤ room
-    pub bound : end ≤ used + 32772 * spread rows
+    pub bound : end ≤ used + 32772 * length (laid rows)
 
   pub tried-all : (rows : List (List ℕ)) (r used last end : ℕ) → used ≤ room → Fine last end ≡ each rows r used → Tried rows r used last end
-  unfolding tries joined spread
+  unfolding tries joined laid
   tried-all [] r used last end h e =
       let p : last ≡ r = cc in
       let q : end ≡ used = cc in
@@ -123,7 +120,13 @@ module _ (family : ℕ) (pool : List ℕ) (room : ℕ) where
       let ih = tried-all rows (r + 1) (used + m) last end (t .first .fits) (e ∙ t .later) in
       let k = family-row family row pool m (t .first .measures) in
       let l = length-append (familyBytes family pool row) (joined family pool rows) in
-      record { count = omega (arith, ih .count); long = omega (arith, ih .long, k .long); fits = ih .fits; bound = omega (arith, ih .bound, k .bound) }
+      let n = length-append row (laid rows) in
+      record {
+        count = omega (arith, ih .count);
+        long = omega (arith, ih .long, k .long);
+        fits = ih .fits;
+        bound = omega (arith, ih .bound, k .bound);
+      }
 
 -- ---- writing
 
@@ -148,53 +151,61 @@ module _ (family : ℕ) (row pool body : List ℕ) (used : ℕ) (k : Fits family
   pub row-never : {w : Refusal} {v : ℕ} → a ≡ Refused w v → ⊥
   row-never p = let f = answered in let z : _≡_ {A = ℕ} 0 1 = cc in omega arith
 
-module _ (family : ℕ) (pool s : List ℕ) (start : ℕ) (first : List ℕ) where
-  abbrev string : ℕ → List ℕ
-  string at = joined family pool (listed (rest s at))
+-- a row that is put, and those behind it, leave what they leave together
+pub put-next : (family : ℕ) (pool : List ℕ) {rows others : List (List ℕ)} {row body new last : List ℕ} {used end : ℕ} → rows ≡ row ∷ others
+    → Wrote body used (familyBytes family pool row) end new → sets body used (joined family pool rows) ≡ last
+    → sets new end (joined family pool others) ≡ last
+unfolding joined
+put-next family pool {others} {row} {body} {used} are u e =
+    rw (u .content, u .place)
+    (sets-append (familyBytes family pool row) (joined family pool others) body used
+    ∙ ap (λ rows. sets body used (joined family pool rows)) (sym are) ∙ e)
+
+module _ (family : ℕ) (pool ws first : List ℕ) where
+  abbrev string : List (List ℕ) → List ℕ
+  string rows = joined family pool rows
 
   -- the rows from `at` on, put where the loop stands, leave what all leave
   pub record Writing (at used : ℕ) (body : List ℕ) : Type 0 where
-    pub framed : Framed s at
+    pub later : List (List ℕ)
+    pub here : Here ws at later
     pub rows : ℕ
-    pub passed : Passed (tries family pool (length first) (listed (rest s at)) rows used)
+    pub passed : Passed (tries family pool (length first) later rows used)
     pub size : length body ≡ length first
-    pub same : sets body used (string at) ≡ sets first 0 (string start)
+    pub same : sets body used (string later) ≡ sets first 0 (string (rowsIn ws))
 
-  pub write-start : Framed s start → Passed (tries family pool (length first) (listed (rest s start)) 0 0) → Writing start 0 first
-  write-start f p = record { framed = f; rows = 0; passed = p; size = refl; same = refl }
+  pub write-start : InRows ws → Passed (tries family pool (length first) (rowsIn ws) 0 0) → Writing 0 0 first
+  write-start e p = record { later = rowsIn ws; here = e; rows = 0; passed = p; size = refl; same = refl }
 
   module _ {at used : ℕ} {body : List ℕ} (w : Writing at used body) where
-    pub write-end : length s ≤ at → body ≡ sets first 0 (string start)
+    pub write-end : length ws ≤ at → body ≡ sets first 0 (string (rowsIn ws))
     unfolding joined
-    write-end h = ap (λ rows. sets body used (joined family pool rows)) (sym (no-more (w .framed) h)) ∙ w .same
+    write-end h = ap (λ rows. sets body used (string rows)) (sym (no-rows ws (w .here) h)) ∙ w .same
 
-    module _ (h : at < length s) where
+    module _ (h : at < length ws) where
       abbrev row : List ℕ
-      row = words s (at + 4) (number s at)
+      row = rowAt ws at
 
-      taken : Took family pool (length first) row (listed (rest s (past s at))) (w .rows) used
-      taken = took family pool (length first) row _ (w .rows) used (rw (front (w .framed) h .rows) at (w .passed))
+      abbrev others : List (List ℕ)
+      others = turn ws (w .here) h .later
 
-      pub write-fits : (n : ℕ) → n ≡ number s at → Fits family (words s (at + 4) n) pool (length body) used
-      write-fits n e = rw (e, w .size) (taken .first)
+      taken : Took family pool (length first) row others (w .rows) used
+      taken = took family pool (length first) row others (w .rows) used (rw (turn ws (w .here) h .are) at (w .passed))
 
-      pub write-next : (n : ℕ) → n ≡ number s at → {end : ℕ} {new : List ℕ} → Wrote body used (familyBytes family pool (words s (at + 4) n)) end new
-          → (next : ℕ) → next ≡ past s at → Writing next end new
-      unfolding joined
-      write-next n en {end} {new} v next p =
+      pub write-fits : Fits family row pool (length body) used
+      write-fits = rw (w .size) (taken .first)
+
+      pub write-next : {end : ℕ} {new : List ℕ} → Wrote body used (familyBytes family pool row) end new → Writing (endOf ws at) end new
+      write-next {end} {new} u =
           let m = taken .first .size in
           let k = family-row family row pool m (taken .first .measures) in
-          let u = rw en at v in
+          let are = turn ws (w .here) h .are in
           let at-end : end ≡ used + m = omega (arith, u .place, k .long) in
           record {
-            framed = rw p (front (w .framed) h .next);
+            later = others;
+            here = turn ws (w .here) h .next;
             rows = w .rows + 1;
-            passed =
-                rw (p, at-end)
-                (subst Passed (ap (λ l. tries family pool (length first) l (w .rows) used) (front (w .framed) h .rows) ∙ taken .later) (w .passed));
+            passed = rw at-end (subst Passed (ap (λ l. tries family pool (length first) l (w .rows) used) are ∙ taken .later) (w .passed));
             size = same-size u ∙ w .size;
-            same =
-                rw (p, u .content, u .place)
-                (sets-append (familyBytes family pool row) (string (past s at)) body used
-                ∙ ap (λ rows. sets body used (joined family pool rows)) (sym (front (w .framed) h .rows)) ∙ w .same);
+            same = put-next family pool are u (w .same);
           }

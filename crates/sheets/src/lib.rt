@@ -9,10 +9,13 @@ ghost use Prim.Native.Nat.{_<_, _≤_, _+_, _*_};
 ghost use lib.ListN.{length};
 ghost use lib.Seq.{sets};
 ghost use Rattle.fields.specs.Run.{Wrote};
+ghost use Rattle.fields.specs.Write as leaves;
 ghost use Rattle.sheets.specs.Frame.{number, words, framed, poolOf};
 ghost use Rattle.sections.specs.Section.{measuredFamily, familyBytes};
+ghost use Rattle.sections.specs.Finish.{finishing};
 ghost use Rattle.sheets.specs.Sheet.{left, tries, joined, ofRows, sheeted};
-ghost use Rattle.sheets.specs.Steps.{rest, whole, listed, Framed, RowsAt, Starts, firstFamily, Fits, Passed, sectionSize};
+ghost use Rattle.sheets.specs.Steps.{rest, whole, Framed, RowsAt, Starts, firstFamily};
+ghost use Rattle.sheets.specs.Steps.{rowsIn, InRows, Fits, Passed, Makes, SheetWords, wordsLeft, sectionSize, closed};
 
 // Where a sheet's rows start.
 enum Framing {
@@ -115,42 +118,18 @@ fn measure_by(family: u32, row: &[u32], pool: &[u8]) -> Answer
     imports::measure(row, pool)
 }
 
-// The size of the row of n words at `at`, which is laid out in the scratch row.
-fn measure_at(
-    input: &[u8],
-    at: usize,
-    n: usize,
-    family: u32,
-    pool: &[u8],
-    scratch: &mut [u32],
-) -> Answer
-    requires { ⌜ at + 4 * n ≤ length (now input) ⌝ }
-    requires { ⌜ n ≤ length (now scratch) ⌝ }
-    ensures { λ r. ⌜ r ≡ measuredFamily family (words (now (input .entry)) at n) (now (pool .entry)) ⌝ }
+// All rows of the words tried in order: how many they are and the bytes they take, or the first that is refused.
+fn try_rows(words: &[u32], family: u32, pool: &[u8], room: usize) -> Leaf
+    requires { ⌜ InRows (now words) ⌝ }
+    ensures { λ r. ⌜ r ≡ tries family (now (pool .entry)) room (rowsIn (now (words .entry))) 0 0 ⌝ }
 {
-    fill_words(input, at, n, scratch);
-    measure_by(family, &scratch[..n], pool)
-}
-
-// All rows from `start` on tried in order: how many they are and the bytes they take, or the first that is refused.
-fn try_rows(
-    input: &[u8],
-    start: usize,
-    family: u32,
-    pool: &[u8],
-    scratch: &mut [u32],
-    room: usize,
-) -> Leaf
-    requires { ⌜ Framed (now input) start ⌝ }
-    requires { ⌜ length (now input) ≤ 4 * length (now scratch) ⌝ }
-    ensures { λ r. ⌜ r ≡ tries family (now (pool .entry)) room (listed (rest (now (input .entry)) start)) 0 0 ⌝ }
-{
-    let mut at = start;
+    let mut at: usize = 0;
     let mut rows: usize = 0;
     let mut used: usize = 0;
-    while at < input.len() {
-        let n = number_at(input, at) as usize;
-        match measure_at(input, at + 4, n, family, pool, scratch) {
+    while at < words.len() {
+        let first = at + 1;
+        let end = first + words[at] as usize;
+        match measure_by(family, &words[first..end], pool) {
             Answer::Size(size) => {
                 if room - used < size {
                     return Leaf::Bad(Refusal::Room, rows);
@@ -162,54 +141,35 @@ fn try_rows(
             }
         }
         rows += 1;
-        at += 4 + 4 * n;
+        at = end;
     }
     Leaf::Fine(rows, used)
 }
 
-// The bytes of the row of n words at `at`, put into body from `used` on: the place past them.
-fn write_at(
-    input: &[u8],
-    at: usize,
-    n: usize,
-    family: u32,
-    pool: &[u8],
-    scratch: &mut [u32],
-    body: &mut [u8],
-    used: usize,
-) -> usize
-    requires { ⌜ at + 4 * n ≤ length (now input) ⌝ }
-    requires { ⌜ n ≤ length (now scratch) ⌝ }
-    requires { ⌜ Fits family (words (now input) at n) (now pool) (length (now body)) used ⌝ }
-    ensures { λ r. ⌜ Wrote (now (body .entry)) used (familyBytes family (now (pool .entry)) (words (now (input .entry)) at n)) r (now (body .exit)) ⌝ }
+// The bytes of a row, which was tried, put into body from `used` on: the place past them.
+fn write_one(family: u32, row: &[u32], pool: &[u8], body: &mut [u8], used: usize) -> usize
+    requires { ⌜ Fits family (now row) (now pool) (length (now body)) used ⌝ }
+    ensures { λ r. ⌜ Wrote (now (body .entry)) used (familyBytes family (now (pool .entry)) (now (row .entry))) r (now (body .exit)) ⌝ }
 {
-    fill_words(input, at, n, scratch);
-    match sections::write_by(family, &scratch[..n], pool, body, used) {
+    match sections::write_by(family, row, pool, body, used) {
         Answer::Size(size) => used + size,
         Answer::Refused(_, _) => used,
     }
 }
 
-// The bytes of all rows from `start` on, which were tried, at the front of body.
-fn write_rows(
-    input: &[u8],
-    start: usize,
-    family: u32,
-    pool: &[u8],
-    scratch: &mut [u32],
-    body: &mut [u8],
-)
-    requires { ⌜ Framed (now input) start ⌝ }
-    requires { ⌜ length (now input) ≤ 4 * length (now scratch) ⌝ }
-    requires { ⌜ Passed (tries family (now pool) (length (now body)) (listed (rest (now input) start)) 0 0) ⌝ }
-    ensures { λ _. ⌜ now (body .exit) ≡ sets (now (body .entry)) 0 (joined family (now (pool .entry)) (listed (rest (now (input .entry)) start))) ⌝ }
+// The bytes of all rows of the words, which were tried, at the front of body.
+fn write_rows(words: &[u32], family: u32, pool: &[u8], body: &mut [u8])
+    requires { ⌜ InRows (now words) ⌝ }
+    requires { ⌜ Passed (tries family (now pool) (length (now body)) (rowsIn (now words)) 0 0) ⌝ }
+    ensures { λ _. ⌜ now (body .exit) ≡ sets (now (body .entry)) 0 (joined family (now (pool .entry)) (rowsIn (now (words .entry)))) ⌝ }
 {
-    let mut at = start;
+    let mut at: usize = 0;
     let mut used: usize = 0;
-    while at < input.len() {
-        let n = number_at(input, at) as usize;
-        used = write_at(input, at + 4, n, family, pool, scratch, body, used);
-        at += 4 + 4 * n;
+    while at < words.len() {
+        let first = at + 1;
+        let end = first + words[at] as usize;
+        used = write_one(family, &words[first..end], pool, body, used);
+        at = end;
     }
 }
 
@@ -222,11 +182,113 @@ fn section_size(rows: u32, used: usize) -> usize
     1 + numbers::unsigned_size(size as u32) + size
 }
 
-// The rows tried, body and output room included, and only then written and finished.
+// What making all rows in a buffer comes to.
+enum Made {
+    // So many rows, and the bytes they take.
+    All(usize, usize),
+    // The first row that is refused, or has no room in the body.
+    Bad(Refusal, usize),
+    // The buffer is full before that is known.
+    Small,
+}
+
+// All rows of the words made in order at the front of `made`, for a body of `room` bytes.
+fn make_rows(words: &[u32], family: u32, pool: &[u8], made: &mut [u8], room: usize) -> Made
+    requires { ⌜ InRows (now words) ⌝ }
+    ensures { λ r. ⌜ Makes r family (now (pool .entry)) room (rowsIn (now (words .entry))) (now (made .entry)) (now (made .exit)) ⌝ }
+{
+    let mut at: usize = 0;
+    let mut rows: usize = 0;
+    let mut used: usize = 0;
+    while at < words.len() {
+        let first = at + 1;
+        let end = first + words[at] as usize;
+        match sections::write_by(family, &words[first..end], pool, made, used) {
+            Answer::Size(size) => {
+                if room - used < size {
+                    return Made::Bad(Refusal::Room, rows);
+                }
+                used += size;
+            }
+            Answer::Refused(why, size) => {
+                if fields::number_of(why) != 8 {
+                    return Made::Bad(why, rows);
+                }
+                if room - used < size {
+                    return Made::Bad(why, rows);
+                }
+                return Made::Small;
+            }
+        }
+        rows += 1;
+        at = end;
+    }
+    Made::All(rows, used)
+}
+
+// The section of the rows whose bytes are at the front of body.
+fn close(family: u32, count: u32, used: usize, body: &[u8], out: &mut [u8]) -> Answer
+    ensures { λ r. ⌜ leaves.left r (now (out .exit)) ≡ finishing (closed family used count) (now (body .entry)) (now (out .entry)) ⌝ }
+{
+    let section = Section {
+        family: family,
+        used: used,
+        count: count,
+        phase: Phase::Closed,
+    };
+    section.finish(body, out)
+}
+
+// The rows of the words tried, body and output room included, and only then written and finished.
+fn sheet_general(words: &[u32], family: u32, pool: &[u8], body: &mut [u8], out: &mut [u8]) -> Answer
+    requires { ⌜ SheetWords family (now words) ⌝ }
+    ensures { λ r. ⌜ left r (now (body .exit)) (now (out .exit)) ≡ wordsLeft family (now (words .entry)) (now (pool .entry)) (now (body .entry)) (now (out .entry)) ⌝ }
+{
+    match try_rows(words, family, pool, body.len()) {
+        Leaf::Fine(rows, used) => {
+            if out.len() < section_size(rows as u32, used) {
+                return Answer::Refused(Refusal::Room, rows);
+            }
+            write_rows(words, family, pool, body);
+            close(family, rows as u32, used, body, out)
+        }
+        Leaf::Bad(why, row) => Answer::Refused(why, row),
+    }
+}
+
+// The rows of the words made once, in `made`, and copied to body when all is known: making a row measures it too. Where they do not
+// fit there, they are tried and then written.
+fn sheet_words(
+    words: &[u32],
+    family: u32,
+    pool: &[u8],
+    made: &mut [u8],
+    body: &mut [u8],
+    out: &mut [u8],
+) -> Answer
+    requires { ⌜ SheetWords family (now words) ⌝ }
+    ensures { λ r. ⌜ left r (now (body .exit)) (now (out .exit)) ≡ wordsLeft family (now (words .entry)) (now (pool .entry)) (now (body .entry)) (now (out .entry)) ⌝ }
+{
+    match make_rows(words, family, pool, made, body.len()) {
+        Made::All(rows, used) => {
+            let count = rows as u32;
+            if out.len() < section_size(count, used) {
+                return Answer::Refused(Refusal::Room, rows);
+            }
+            numbers::copy(&made[..used], 0, body);
+            close(family, count, used, body, out)
+        }
+        Made::Bad(why, row) => Answer::Refused(why, row),
+        Made::Small => sheet_general(words, family, pool, body, out),
+    }
+}
+
+// The rows laid out as words, all together: making, trying and writing walk over them.
 fn sheet_rows(
     input: &[u8],
     start: usize,
     scratch: &mut [u32],
+    made: &mut [u8],
     body: &mut [u8],
     out: &mut [u8],
 ) -> Answer
@@ -236,55 +298,43 @@ fn sheet_rows(
     ensures { λ r. ⌜ left r (now (body .exit)) (now (out .exit)) ≡ ofRows (framed (now (input .entry))) (poolOf (now (input .entry))) (now (body .entry)) (now (out .entry)) ⌝ }
 {
     let family = family_at(input, start);
-    let pool = &input[5..start];
-    match try_rows(input, start, family, pool, scratch, body.len()) {
-        Leaf::Fine(rows, used) => {
-            let count = rows as u32;
-            if out.len() < section_size(count, used) {
-                return Answer::Refused(Refusal::Room, rows);
-            }
-            write_rows(input, start, family, pool, scratch, body);
-            let section = Section {
-                family: family,
-                used: used,
-                count: count,
-                phase: Phase::Closed,
-            };
-            section.finish(body, out)
-        }
-        Leaf::Bad(why, row) => Answer::Refused(why, row),
-    }
+    let n = (input.len() - start) / 4;
+    fill_words(input, start, n, scratch);
+    sheet_words(&scratch[..n], family, &input[5..start], made, body, out)
 }
 
-// The rows with a scratch row of 256 words. Zeroing a large array costs more than a small sheet does: the sheet's length chooses one of
-// three functions, and only the array of that one is zeroed.
+// The rows with 256 words to lay them out in and 1,024 bytes to make them in. Zeroing large arrays costs more than a small sheet does:
+// the sheet's length chooses one of three functions, and only the arrays of that one are zeroed.
 fn sheet_small(input: &[u8], start: usize, body: &mut [u8], out: &mut [u8]) -> Answer
     requires { ⌜ RowsAt (now input) start ⌝ }
     requires { ⌜ length (now input) ≤ 1024 ⌝ }
     ensures { λ r. ⌜ left r (now (body .exit)) (now (out .exit)) ≡ ofRows (framed (now (input .entry))) (poolOf (now (input .entry))) (now (body .entry)) (now (out .entry)) ⌝ }
 {
     let mut scratch = [0u32; 256];
-    sheet_rows(input, start, &mut scratch, body, out)
+    let mut made = [0u8; 1024];
+    sheet_rows(input, start, &mut scratch, &mut made, body, out)
 }
 
-// The same with 2,048 words.
+// The same with 2,048 words and 8,192 bytes.
 fn sheet_middle(input: &[u8], start: usize, body: &mut [u8], out: &mut [u8]) -> Answer
     requires { ⌜ RowsAt (now input) start ⌝ }
     requires { ⌜ length (now input) ≤ 8192 ⌝ }
     ensures { λ r. ⌜ left r (now (body .exit)) (now (out .exit)) ≡ ofRows (framed (now (input .entry))) (poolOf (now (input .entry))) (now (body .entry)) (now (out .entry)) ⌝ }
 {
     let mut scratch = [0u32; 2048];
-    sheet_rows(input, start, &mut scratch, body, out)
+    let mut made = [0u8; 8192];
+    sheet_rows(input, start, &mut scratch, &mut made, body, out)
 }
 
-// The same with 16,384 words, enough for the longest sheet.
+// The same with 16,384 words, enough for the longest sheet, and 65,536 bytes.
 fn sheet_large(input: &[u8], start: usize, body: &mut [u8], out: &mut [u8]) -> Answer
     requires { ⌜ RowsAt (now input) start ⌝ }
     requires { ⌜ length (now input) ≤ 65536 ⌝ }
     ensures { λ r. ⌜ left r (now (body .exit)) (now (out .exit)) ≡ ofRows (framed (now (input .entry))) (poolOf (now (input .entry))) (now (body .entry)) (now (out .entry)) ⌝ }
 {
     let mut scratch = [0u32; 16384];
-    sheet_rows(input, start, &mut scratch, body, out)
+    let mut made = [0u8; 65536];
+    sheet_rows(input, start, &mut scratch, &mut made, body, out)
 }
 
 // The rows with the smallest of the three scratch rows that has a word for every four bytes of the sheet.

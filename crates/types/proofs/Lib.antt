@@ -1,3 +1,8 @@
+pub mod CountedLaws
+pub mod FunctionLaws
+pub mod KindLaws
 pub mod Productions
 pub mod ReadLaws
 pub mod Rows
+pub mod SmallLaws
+pub mod StepLaws

@@ -1,12 +1,23 @@
 // Kinds 0 to 16: the defined, function and resource types of the component binary document.
+mod counted;
+mod function;
+mod optional;
+mod small;
+pub mod steps;
+mod straight;
+
 use fields::Answer;
 use fields::Close;
 use fields::Form;
 use fields::Front;
 use fields::Plain;
 use fields::Read;
+use fields::Refusal;
 use fields::Tail;
 use fields::Unit;
+pub use steps::write_async;
+pub use steps::write_params;
+pub use steps::write_result;
 ghost use mathlib.Core.Path.{_≡_};
 ghost use Rattle.fields.specs.Form.{foundIn};
 ghost use Rattle.fields.specs.Read.{leftRow};
@@ -52,16 +63,32 @@ fn form_of(kind: u32) -> Form
 pub fn measure(row: &[u32], pool: &[u8]) -> Answer
     ensures { λ r. ⌜ r ≡ measuredType (now (row .entry)) (now (pool .entry)) ⌝ }
 {
+    let size = straight::row_size(row, pool);
+    if 0 < size {
+        return Answer::Size(size);
+    }
     let form = form_of(fields::kind_of(row));
-    fields::measure_form(form, row, pool)
+    fields::measure_row(fields::form::found_of(form), row, pool)
 }
 
 // A type row judged beside its pool, and written into out from `at` on.
 pub fn write(row: &[u32], pool: &[u8], out: &mut [u8], at: usize) -> Answer
     ensures { λ r. ⌜ left r (now (out .exit)) ≡ writeType (now (row .entry)) (now (pool .entry)) (now (out .entry)) at ⌝ }
 {
-    let form = form_of(fields::kind_of(row));
-    fields::write_form(form, row, pool, out, at)
+    let done = straight::write_small(row, pool, out, at);
+    if 0 < done {
+        return Answer::Size(done);
+    }
+    match measure(row, pool) {
+        Answer::Size(size) => {
+            if writing::fits(size, at, out.len()) {
+                straight::put_row(row, pool, out, at);
+                return Answer::Size(size);
+            }
+            Answer::Refused(Refusal::Room, size)
+        }
+        Answer::Refused(why, value) => Answer::Refused(why, value),
+    }
 }
 
 // The kind of the items that begin with a byte; 17 is no type's.

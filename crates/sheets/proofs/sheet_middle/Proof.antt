@@ -6,6 +6,9 @@ use Rattle.sheets.proofs.sheet_middle.Tie as tie
 slice-aggregate-sheet-rows : tie.Need-slice-aggregate-sheet-rows
 slice-aggregate-sheet-rows c = search needs
 
+slice-aggregate-sheet-rows-2 : tie.Need-slice-aggregate-sheet-rows-2
+slice-aggregate-sheet-rows-2 c = search needs
+
 sheet-rows-requires : tie.Need-sheet-rows-requires
 sheet-rows-requires c κs = search needs
 
@@ -19,4 +22,4 @@ returns : tie.Need-returns
 returns c = search needs
 
 pub sheet-middle-spec : {M : Type 1} → statement M
-sheet-middle-spec = tie.close (tie.spec slice-aggregate-sheet-rows sheet-rows-requires same-length same-length-2 returns)
+sheet-middle-spec = tie.close (tie.spec slice-aggregate-sheet-rows slice-aggregate-sheet-rows-2 sheet-rows-requires same-length same-length-2 returns)

@@ -1,78 +1,65 @@
--- `write_rows` meets its contract. The loop's invariant is `Writing`: the rows from here, put from here, leave what all leave. The measure
--- is how many bytes are left.
+-- `write_rows` meets its contract. The loop's invariant: the rows from here, put here, leave what all leave. The measure: the words left.
 use Prim.Native.Nat.{_-_, _≤_}
 use native.Mathlib.Omega.{arith}
-use mathlib.Core.Path.{_≡_, refl, _∙_}
 use borrow.Author.Needs.{needs}
 use denote.Ref.{now}
 use lib.ListN.{length}
-use Rattle.sheets.proofs.FrameLaws.{past, front}
+use Rattle.sheets.proofs.LaidLaws.{endOf, turn}
 use Rattle.sheets.proofs.SheetLaws.{Writing, write-start, write-end, write-fits, write-next}
 use Rattle.sheets.proofs.write_rows.Statement.{statement}
 use Rattle.sheets.proofs.write_rows.Tie as tie
 
 abbrev Inv-loop : tie.InvT-loop
-Inv-loop input start family pool scratch₀ body₀ at₀ used₀ scratch body at used =
-    (length scratch ≡ length scratch₀) × Writing family pool input start body₀ at used body
+Inv-loop words family pool body₀ at₀ used₀ body at used = Writing family pool words body₀ at used body
 
 abbrev μ-loop : tie.MeasureT-loop
-μ-loop input start family pool scratch₀ body₀ at₀ used₀ scratch body at used = length input - at
+μ-loop words family pool body₀ at₀ used₀ body at used = length words - at
 
 -- the row here is whole
-row-fits : (c : tie.In-loop Inv-loop μ-loop) → let input = now (c .before .before .before .before .before .before .args .input) in past input (c .before .loop .at) ≤ length input
-row-fits c = front (c .before .loop .inv .1 .framed) (c .loop-test .taken) .fits
+row-fits : (c : tie.In-loop Inv-loop μ-loop)
+    → let words = now (c .before .before .before .before .before .args .words) in endOf words (c .before .loop .at) ≤ length words
+row-fits c = turn _ (c .before .loop .inv .here) (c .loop-test .taken) .fits
 
 loop-holds : tie.Need-loop-holds Inv-loop μ-loop
-loop-holds c =
-    let start = c .before .before .before .before in
-    (refl, write-start _ _ _ _ _ (start .pre .0) (start .pre .1 .1))
+loop-holds c = let start = c .before .before .before in write-start _ _ _ _ (start .pre .0) (start .pre .1)
 
-number-at-requires : tie.Need-number-at-requires Inv-loop μ-loop
-number-at-requires c κs = omega (arith, row-fits c)
+add-first : tie.Need-add-first Inv-loop μ-loop
+add-first c = omega (arith, row-fits c)
 
-cast-n : tie.Need-cast-n Inv-loop μ-loop
-cast-n c = search needs
+cast-end : tie.Need-cast-end Inv-loop μ-loop
+cast-end c = omega (arith, row-fits (c .before))
 
-add-write-at : tie.Need-add-write-at Inv-loop μ-loop
-add-write-at c = omega (arith, row-fits (c .before))
+add-end : tie.Need-add-end Inv-loop μ-loop
+add-end c = omega (arith, row-fits (c .before))
 
-write-at-requires : tie.Need-write-at-requires Inv-loop μ-loop
-write-at-requires c κs =
+sub-write-one : tie.Need-sub-write-one Inv-loop μ-loop
+sub-write-one c = omega arith
+
+part-write-one-start : tie.Need-part-write-one-start Inv-loop μ-loop
+part-write-one-start c = omega (arith, row-fits (c .before))
+
+part-write-one-end : tie.Need-part-write-one-end Inv-loop μ-loop
+part-write-one-end c = omega (arith, row-fits (c .before))
+
+write-one-requires : tie.Need-write-one-requires Inv-loop μ-loop
+write-one-requires c κs =
     let here = c .before .before .before in
-    let row = row-fits here in
-    let n = c .before .before .number-at .ensures in
-    (omega arith, (omega arith, write-fits _ _ _ _ _ (here .before .loop .inv .1) (here .loop-test .taken) _ n))
-
-mul-at : tie.Need-mul-at Inv-loop μ-loop
-mul-at c = omega (arith, row-fits (c .before .before .before .before .before .before .before .before), c .before .before .before .before .before .before .before .number-at .ensures)
-
-add-at : tie.Need-add-at Inv-loop μ-loop
-add-at c = omega (arith, row-fits (c .before .before .before .before .before .before .before .before), c .before .before .before .before .before .before .before .number-at .ensures)
-
-add-at-2 : tie.Need-add-at-2 Inv-loop μ-loop
-add-at-2 c = omega (arith, row-fits (c .before .before .before .before .before .before .before .before), c .before .before .before .before .before .before .before .number-at .ensures)
+    write-fits _ _ _ _ (here .before .loop .inv) (here .loop-test .taken)
 
 loop-less : tie.Need-loop-less Inv-loop μ-loop
-loop-less c = omega (arith, row-fits (c .before .before .before .before .before .before .before .before), c .before .before .before .before .before .before .before .number-at .ensures)
+loop-less c = omega (arith, row-fits (c .before .before .before .before .before .before))
 
 loop-again : tie.Need-loop-again Inv-loop μ-loop
 loop-again c =
-    let w = c .before .before .before .before in
-    let l = w .before .before .before .before .before in
-    let n = w .before .before .before .number-at .ensures in (
-      c .before .before .before .scratch .given ∙ l .loop .inv .0,
-      write-next _ _ _ _ _ (l .loop .inv .1) (w .before .before .before .before .loop-test .taken) _ n (w .write-at .ensures) _ (omega arith),
-    )
+    let w = c .before .before in
+    let here = w .before .before .before .before in
+    write-next _ _ _ _ (here .before .loop .inv) (here .loop-test .taken) (w .write-one .ensures)
 
 same-length : tie.Need-same-length Inv-loop μ-loop
-same-length c = c .before .loop .inv .0
-
-same-length-2 : tie.Need-same-length-2 Inv-loop μ-loop
-same-length-2 c = c .before .loop .inv .1 .size
+same-length c = c .before .loop .inv .size
 
 returns : tie.Need-returns Inv-loop μ-loop
-returns c =
-    write-end _ _ _ _ _ (c .before .loop .inv .1) (c .loop-test .left)
+returns c = write-end _ _ _ _ (c .before .loop .inv) (c .loop-test .left)
 
 pub write-rows-spec : {M : Type 1} → statement M
 write-rows-spec =
@@ -81,15 +68,17 @@ write-rows-spec =
     Inv-loop
     μ-loop
     loop-holds
-    number-at-requires
-    cast-n
-    add-write-at
-    write-at-requires
-    mul-at
-    add-at
-    add-at-2
+    add-first
+    (search needs)
+    (search needs)
+    cast-end
+    add-end
+    (search needs)
+    sub-write-one
+    part-write-one-start
+    part-write-one-end
+    write-one-requires
     loop-less
     loop-again
     same-length
-    same-length-2
     returns)

@@ -1,25 +1,25 @@
--- `nothing_row` meets its contract: it has room for each store, and the stores leave the bytes of the class (`nothing-put`).
-use native.Mathlib.Omega.{arith}
-use Rattle.canonicals.proofs.ClassLaws.{nothing-put, put-none}
+-- `nothing_row` meets its contract: what was seen and has room is put (`put-room`), and else nothing is done.
+use denote.Ref.{now}
+use Rattle.canonicals.proofs.ClassLaws.{put-room, put-some, put-none}
 use borrow.Author.Needs.{needs}
 use Rattle.canonicals.proofs.straight.nothing_row.Statement.{statement}
 use Rattle.canonicals.proofs.straight.nothing_row.Tie as tie
 
-slice-write-out : tie.Need-slice-write-out
-slice-write-out c =
-    let room = c .before .fits2 .ensures (c .if1 .taken) in
-    let seen = c .before .before .nothing-size .ensures (room .0) in
-    omega (arith, room .0, room .1, seen .size)
+put-nothing-requires : tie.Need-put-nothing-requires
+put-nothing-requires c κs =
+    let a = c .before .before .before .before .before .before .args in
+    put-room (now (a .out)) (a .at) (c .before .before .before .nothing-size .ensures) (c .before .before .fits2 .ensures) (c .before .if1 .taken) .1
 
 returns : tie.Need-returns
 returns c =
-    let room = c .before .fits2 .ensures (c .if1 .taken) in
-    let seen = c .before .before .nothing-size .ensures (room .0) in
-    nothing-put seen room
+    let a = c .before .before .before .before .before .before .before .before .before .args in
+    put-some (now (a .out)) (a .at) (c .before .before .before .before .before .before .nothing-size .ensures)
+    (c .before .before .before .before .before .fits2 .ensures) (c .before .before .before .before .if1 .taken) (a .lead)
+    (c .before .before .put-nothing .ensures)
 
 returns-2 : tie.Need-returns-2
 returns-2 c = put-none
 
 pub nothing-row-spec : {M : Type 1} → statement M
 nothing-row-spec =
-    tie.close (tie.spec (search needs) (search needs) slice-write-out (search needs) returns returns-2)
+    tie.close (tie.spec (search needs) (search needs) put-nothing-requires (search needs) returns returns-2)

@@ -1,7 +1,7 @@
 -- `put_options` meets its contract: the loop's invariant is `Putting`: what is still to be put, put here, leaves what the whole leaves.
 use native.Mathlib.Omega.{arith}
 use denote.Ref.{now}
-use Rattle.canonicals.proofs.ClassLaws.{Putting, putting-start, putting-turn, putting-next, putting-end}
+use Rattle.canonicals.proofs.ClassLaws.{Putting, putting-place, putting-start, putting-turn, putting-next, putting-end}
 use Rattle.canonicals.proofs.straight.put_options.Statement.{statement}
 use Rattle.canonicals.proofs.straight.put_options.Tie as tie
 
@@ -17,28 +17,28 @@ loop-holds c =
     putting-start (now (a .row)) (a .from) (a .n) (now (a .out)) (a .base) (c .before .before .pre .1)
 
 mul-put-option : tie.Need-mul-put-option Inv-loop μ-loop
-mul-put-option c = omega (arith, c .before .loop .inv .place, c .before .before .before .before .pre .0)
+mul-put-option c = omega (arith, putting-place (c .before .loop .inv), c .before .before .before .before .pre .0)
 
 shared-slice-read-put-option : tie.Need-shared-slice-read-put-option Inv-loop μ-loop
-shared-slice-read-put-option c = omega (arith, c .before .before .loop .inv .place, c .before .before .before .before .before .pre .0)
+shared-slice-read-put-option c = omega (arith, putting-place (c .before .before .loop .inv), c .before .before .before .before .before .pre .0)
 
 add-put-option : tie.Need-add-put-option Inv-loop μ-loop
-add-put-option c = omega (arith, c .before .before .loop .inv .place, c .before .before .before .before .before .pre .0)
+add-put-option c = omega (arith, putting-place (c .before .before .loop .inv), c .before .before .before .before .before .pre .0)
 
 mul-put-option-2 : tie.Need-mul-put-option-2 Inv-loop μ-loop
-mul-put-option-2 c = omega (arith, c .before .before .loop .inv .place, c .before .before .before .before .before .pre .0)
+mul-put-option-2 c = omega (arith, putting-place (c .before .before .loop .inv), c .before .before .before .before .before .pre .0)
 
 shared-slice-read-put-option-2 : tie.Need-shared-slice-read-put-option-2 Inv-loop μ-loop
-shared-slice-read-put-option-2 c = omega (arith, c .before .before .before .loop .inv .place, c .before .before .before .before .before .before .pre .0)
+shared-slice-read-put-option-2 c = omega (arith, putting-place (c .before .before .before .loop .inv), c .before .before .before .before .before .before .pre .0)
 
 put-option-requires : tie.Need-put-option-requires Inv-loop μ-loop
-put-option-requires c κs = putting-turn (c .before .before .before .before .loop .left) (c .before .before .before .before .loop .inv) (c .before .before .before .loop-test .taken) (c .before .before .before .before .before .before .before .pre .2)
+put-option-requires c κs = putting-turn (c .before .before .before .before .loop .inv) (c .before .before .before .loop-test .taken) (c .before .before .before .before .before .before .before .pre .2)
 
 add-at : tie.Need-add-at Inv-loop μ-loop
-add-at c = omega (arith, c .before .before .before .before .before .before .before .loop .inv .place, c .before .before .before .before .before .before .before .before .before .before .pre .0)
+add-at c = omega (arith, putting-place (c .before .before .before .before .before .before .before .loop .inv), c .before .before .before .before .before .before .before .before .before .before .pre .0)
 
 sub-left : tie.Need-sub-left Inv-loop μ-loop
-sub-left c = omega (arith, c .before .before .before .before .before .before .before .loop .inv .place, c .before .before .before .before .before .before .before .before .before .before .pre .0)
+sub-left c = omega (arith, putting-place (c .before .before .before .before .before .before .before .loop .inv), c .before .before .before .before .before .before .before .before .before .before .pre .0)
 
 loop-less : tie.Need-loop-less Inv-loop μ-loop
 loop-less c = omega arith
@@ -50,7 +50,7 @@ same-length : tie.Need-same-length Inv-loop μ-loop
 same-length c = c .before .loop .inv .same
 
 returns : tie.Need-returns Inv-loop μ-loop
-returns c = putting-end (c .before .loop .left) (c .before .loop .inv) (c .loop-test .left)
+returns c = putting-end (c .before .loop .inv) (c .loop-test .left)
 
 pub put-options-spec : {M : Type 1} → statement M
 put-options-spec =

@@ -1,11 +1,12 @@
 -- `write_class` meets its contract: each arm by what its call leaves for the class found.
-use Rattle.canonicals.proofs.ClassLaws.{tried, tried-none}
+use Rattle.writing.proofs.RowLaws.{tried-none}
+use Rattle.canonicals.proofs.ClassLaws.{tried}
 use borrow.Author.Needs.{needs}
 use Rattle.canonicals.proofs.straight.write_class.Statement.{statement}
 use Rattle.canonicals.proofs.straight.write_class.Tie as tie
 
 returns : tie.Need-returns
-returns c = tried-none
+returns c = tried-none _ _ _ _ _
 
 returns-2 : tie.Need-returns-2
 returns-2 c = tried (c .before .before .before .before .enum-told .given .1) (c .before .before .before .before .before .before .if1 .left) (c .before .before .nothing-row .ensures)
@@ -38,7 +39,7 @@ returns-11 : tie.Need-returns-11
 returns-11 c = tried (c .before .before .before .before .enum-told10 .given .1) (c .before .before .before .before .before .before .if1 .left) (c .before .before .zero-options-row .ensures)
 
 returns-12 : tie.Need-returns-12
-returns-12 c = tried-none
+returns-12 c = tried-none _ _ _ _ _
 
 pub write-class-spec : {M : Type 1} → statement M
 write-class-spec =

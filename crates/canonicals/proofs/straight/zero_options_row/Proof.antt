@@ -1,63 +1,33 @@
--- `zero_options_row` meets its contract: it has room for each store, and the stores leave the bytes of the class (`zero-options-put`).
-use native.Mathlib.Omega.{arith}
-use Prim.Native.Nat.{_+_}
+-- `zero_options_row` meets its contract: what was seen and has room is put (`put-room`), and else nothing is done.
 use denote.Ref.{now}
-use lib.ListN.{set, length-set}
-use Rattle.canonicals.proofs.ClassLaws.{zero-options-put, put-length, put-none}
+use Rattle.canonicals.specs.declared.Class.the-variants as class
+use Rattle.canonicals.proofs.ClassLaws.{put-room, put-some, put-none}
 use borrow.Author.Needs.{needs}
 use Rattle.canonicals.proofs.straight.zero_options_row.Statement.{statement}
 use Rattle.canonicals.proofs.straight.zero_options_row.Tie as tie
 
-slice-write-out : tie.Need-slice-write-out
-slice-write-out c =
-    let room = c .before .fits2 .ensures (c .if1 .taken) in
-    let seen = c .before .before .optioned-size .ensures (room .0) in
-    omega (arith, room .0, room .1, seen .1)
-
-add-out : tie.Need-add-out
-add-out c =
-    let room = c .before .fits2 .ensures (c .if1 .taken) in
-    let seen = c .before .before .optioned-size .ensures (room .0) in
-    omega (arith, room .0, room .1, seen .1)
-
-slice-write-out-2 : tie.Need-slice-write-out-2
-slice-write-out-2 c =
-    let a = c .before .before .before .before .before .args in
-    let room = c .before .fits2 .ensures (c .if1 .taken) in
-    let seen = c .before .before .optioned-size .ensures (room .0) in
-    omega (arith, length-set (now (a .out)) (a .at) (a .lead), room .1, seen .1)
-
-add-put-optioned : tie.Need-add-put-optioned
-add-put-optioned c =
-    let room = c .before .before .fits2 .ensures (c .before .if1 .taken) in
-    let seen = c .before .before .before .optioned-size .ensures (room .0) in
-    omega (arith, room .0, room .1, seen .1)
-
-put-optioned-requires : tie.Need-put-optioned-requires
-put-optioned-requires c κs =
+put-zero-options-requires : tie.Need-put-zero-options-requires
+put-zero-options-requires c κs =
     let a = c .before .before .before .before .before .before .args in
-    let room = c .before .before .fits2 .ensures (c .before .if1 .taken) in
-    let seen = c .before .before .before .optioned-size .ensures (room .0) in
-    (seen .0, omega (arith, length-set (set (now (a .out)) (a .at) (a .lead)) (a .at + 1) 0, length-set (now (a .out)) (a .at) (a .lead), room .1, seen .1))
-
-same-length : tie.Need-same-length
-same-length c =
-    let a = c .before .before .before .before .before .before .before .before .before .args in
-    let room = c .before .before .before .before .before .fits2 .ensures (c .before .before .before .before .if1 .taken) in
-    let seen = c .before .before .before .before .before .before .optioned-size .ensures (room .0) in
-    put-length (a .lead) (now (a .out)) (zero-options-put (record { right = seen .0; size = seen .1 }) room (c .before .before .put-optioned .ensures)) (room .0)
+    put-room (now (a .out)) (a .at) {c = class.ZeroOptions}
+    (λ h. record
+    { right = c .before .before .before .optioned-size .ensures h .0; size = c .before .before .before .optioned-size .ensures h .1 })
+    (c .before .before .fits2 .ensures) (c .before .if1 .taken)
 
 returns : tie.Need-returns
 returns c =
-    let room = c .before .before .before .before .before .fits2 .ensures (c .before .before .before .before .if1 .taken) in
-    let seen = c .before .before .before .before .before .before .optioned-size .ensures (room .0) in
-    zero-options-put (record { right = seen .0; size = seen .1 }) room (c .before .before .put-optioned .ensures)
+    let a = c .before .before .before .before .before .before .before .before .before .args in
+    put-some (now (a .out)) (a .at) {c = class.ZeroOptions}
+    (λ h. record {
+      right = c .before .before .before .before .before .before .optioned-size .ensures h .0;
+      size = c .before .before .before .before .before
+          .before .optioned-size .ensures h .1;
+    }) (c .before .before .before .before .before .fits2 .ensures)
+    (c .before .before .before .before .if1 .taken) (a .lead) (c .before .before .put-zero-options .ensures)
 
 returns-2 : tie.Need-returns-2
 returns-2 c = put-none
 
 pub zero-options-row-spec : {M : Type 1} → statement M
 zero-options-row-spec =
-    tie.close
-    (tie.spec (search needs) (search needs) slice-write-out add-out slice-write-out-2 add-put-optioned
-    put-optioned-requires same-length returns returns-2)
+    tie.close (tie.spec (search needs) (search needs) put-zero-options-requires (search needs) returns returns-2)

@@ -17,7 +17,7 @@ returns : tie.Need-returns
 returns c =
     let asked = c .before in
     let a = asked .before .before .before .before .args in
-    plain-flaw (now (a .pool)) (now (a .ws)) _ (asked .before .named-at .ensures) (asked .is-plain .ensures .0 (c .if1 .taken))
+    plain-flaw (now (a .pool)) (now (a .ws)) _ (asked .before .named-at .ensures) (asked .is-plain .ensures (c .if1 .taken))
 
 optional-name-at-requires : tie.Need-optional-name-at-requires
 optional-name-at-requires c κs = search needs

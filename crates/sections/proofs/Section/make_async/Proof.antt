@@ -29,14 +29,14 @@ returns c = simp (c .refuse .ensures, failed (c .before .before .sound .ensures)
 enum-known-phase : tie.Need-enum-known-phase
 enum-known-phase c = search needs
 
-write-alone-requires : tie.Need-write-alone-requires
-write-alone-requires c κs = search needs
+write-async-requires : tie.Need-write-async-requires
+write-async-requires c κs = search needs
 
 after-requires : tie.Need-after-requires
 after-requires c κs =
     let wrote = c .before .before in
     let start = wrote .before .before .before .before .before .before .before .before in
-    written-fits (shape-writer (start .args .self) _ _ _ _ _) (wrote .write-alone .ensures) (omega arith)
+    written-fits (shape-writer (start .args .self) _ _ _ _ _) (wrote .write-async .ensures) (omega arith)
 
 enum-told : tie.Need-enum-told
 enum-told c = search needs
@@ -65,7 +65,7 @@ returns-2 c =
     let wrote = c .before .before .before in
     let arm = wrote .before .before .before in
     simp (sound-here (arm .before .before), arm .phase .given .1)
-    (as-wrote _ _ _ (wrote .write-alone .ensures) (c .after .ensures))
+    (as-wrote _ _ _ (wrote .write-async .ensures) (c .after .ensures))
 
 returns-3 : tie.Need-returns-3
 unfolding asyncing
@@ -87,7 +87,7 @@ make-async-spec =
     refuse-requires
     returns
     enum-known-phase
-    write-alone-requires
+    write-async-requires
     after-requires
     enum-told
     refuse-requires-2

@@ -29,14 +29,14 @@ returns c = simp (c .refuse .ensures, failed (c .before .before .sound .ensures)
 enum-told : tie.Need-enum-told
 enum-told c = search needs
 
-write-alone-requires : tie.Need-write-alone-requires
-write-alone-requires c κs = search needs
+write-result-requires : tie.Need-write-result-requires
+write-result-requires c κs = search needs
 
 after-requires : tie.Need-after-requires
 after-requires c κs =
     let wrote = c .before .before in
     let start = wrote .before .before .before .before .before .before .before in
-    written-fits (shape-writer (start .args .self) _ _ _ _ _) (wrote .write-alone .ensures) (omega arith)
+    written-fits (shape-writer (start .args .self) _ _ _ _ _) (wrote .write-result .ensures) (omega arith)
 
 enum-told-2 : tie.Need-enum-told-2
 enum-told-2 c = search needs
@@ -65,7 +65,7 @@ returns-2 c =
     let wrote = c .before .before .before in
     let arm = wrote .before .before in
     simp (sound-here (arm .before .before), arm .enum-told .given .1)
-    (as-wrote _ _ _ (wrote .write-alone .ensures) (c .after .ensures))
+    (as-wrote _ _ _ (wrote .write-result .ensures) (c .after .ensures))
 
 returns-3 : tie.Need-returns-3
 unfolding resulting
@@ -87,7 +87,7 @@ result-spec =
     refuse-requires
     returns
     enum-told
-    write-alone-requires
+    write-result-requires
     after-requires
     enum-told-2
     refuse-requires-2

@@ -1,0 +1,334 @@
+-- The steps of an open function: words from 0 on are a row behind a kind, and so the laws of rows are theirs.
+use Prim.Native.Nat.{ℕ, _+_, _*_, _^_, _≤_, _<_}
+use native.Mathlib.Omega.{arith}
+use mathlib.Core.Path.{_≡_, refl, sym, ap, _∙_, subst}
+use mathlib.Core.Bool.{Bool, true, false}
+use mathlib.Core.List.{List, [], _∷_, _++_, append-nil}
+use borrow.Author.Tests.{leb-false, lt-leb, le-leb, lt-ltb, le-ltb, eq-eqb}
+use lib.Dec.{eqb}
+use lib.ListN.{length, drop, set}
+use lib.Seq.{sets, drop-drop}
+use Rattle.numbers.specs.Bytes as storing
+use Rattle.numbers.specs.Bytes.{store}
+use Rattle.numbers.specs.Leb.{unsigned}
+use Rattle.numbers.specs.Numbers.{valueOf}
+use Rattle.numbers.specs.declared.bytes.Stored.{Stored}
+use Rattle.numbers.proofs.LebLaws.{size-bounds}
+use Rattle.fields.specs.declared.Answer.{Answer}
+use Rattle.fields.specs.declared.Answer.the-variants.{Size, Refused}
+use Rattle.fields.specs.declared.Field.{Field}
+use Rattle.fields.specs.declared.Field.the-variants as field
+use Rattle.fields.specs.declared.Flaw.the-variants.{Right}
+use Rattle.fields.specs.declared.Found.the-variants.{Is}
+use Rattle.fields.specs.declared.Leaf.{Leaf}
+use Rattle.fields.specs.declared.Leaf.the-variants.{Fine, Bad}
+use Rattle.fields.specs.declared.Refusal.{Refusal}
+use Rattle.fields.specs.declared.Refusal.the-variants as refusal
+use Rattle.fields.specs.declared.Shape.{Shape}
+use Rattle.fields.specs.Binary.{pick, word, functype, valtype, resultlist, bytes}
+use Rattle.fields.specs.Judge.{wide, flaw, judge}
+use Rattle.fields.specs.Row.{measuredRow, rowBytes}
+use Rattle.fields.specs.Run.{along, Wrote}
+use Rattle.fields.specs.Shape.{opening, group, closing, repeated, seq, widths, rowWidth}
+use Rattle.fields.specs.Table.{elements}
+use Rattle.fields.specs.Walk.{next, walk, outs}
+use Rattle.fields.specs.Write.{left, refuse, judged, written, sized, measured, stored, writeShape}
+use Rattle.fields.proofs.AnswerLaws.{Sized, measured-sized}
+use Rattle.fields.proofs.PutLaws.{allFields, judged-along}
+use Rattle.fields.proofs.TableLaws.{strings, written-right}
+use Rattle.fields.proofs.WholeLaws.{Accepted, accepted, sized-accepted, size-is-length, never-too-big}
+use Rattle.fields.proofs.WroteLaws.{nothing, then, same-size, of-store, room-first, room-then}
+use Rattle.writing.specs.Seen.{within, Rights, Groups}
+use Rattle.writing.proofs.GroupLaws.{word-at, labelled-element, byte-wrote}
+use Rattle.writing.proofs.RowLaws.{nothing-at, row-held, bare-seen, many-seen, many-held, ManyHeld}
+use Rattle.types.specs.Seen.{OptionalSeen}
+use Rattle.types.specs.Table.{labelvaltype}
+use Rattle.types.specs.Write.{asyncShape, paramsShape, paramsLead, resultShape}
+use Rattle.types.proofs.FunctionLaws.{result-length, seen-result}
+
+-- ---- room
+
+pub not-within : (size at room : ℕ) → 0 < size → within size at room ≡ false → room < at + size
+unfolding within
+not-within size at room h e = leb-false (at + size) room (simp (lt-ltb 0 size h) at e)
+
+-- ---- what a step answers and leaves: refused before, no room, and written
+
+module _ (s : Shape) (row : List ℕ) (start : ℕ) (pool : List ℕ) {found : Answer} (ef : found ≡ measured s row start pool) (out : List ℕ) (at : ℕ) where
+  pub write-refused : {why : Refusal} {n : ℕ} → found ≡ Refused why n → refuse why n out ≡ writeShape s row start pool out at
+  unfolding writeShape stored
+  write-refused e = rw (← ef, e)
+
+  module _ {size : ℕ} (e : found ≡ Size size) where
+    pub write-cramped : length out < at + size → refuse refusal.Room size out ≡ writeShape s row start pool out at
+    unfolding writeShape stored
+    write-cramped h = rw (← ef, e) (simp (lt-leb _ _ h))
+
+    pub write-whole : at + size ≤ length out → (new : List ℕ) → new ≡ sets out at (written s pool row start)
+        → left (Size size) new ≡ writeShape s row start pool out at
+    unfolding writeShape stored
+    write-whole h new p = rw (← ef, e) (simp (le-leb _ _ h) (ap (λ l. left (Size size) l) p))
+
+-- ---- words from 0 on, and behind a kind
+
+-- a walk from the next place on is the same walk, moved
+abbrev moved : Leaf → Leaf
+moved (Fine a m) = Fine (1 + a) m
+moved (Bad w j) = Bad w (1 + j)
+
+along-moved : (pool : List ℕ) (fs : List Field) (ws : List ℕ) (at made : ℕ)
+    → along (judge pool) fs ws (1 + at) made ≡ moved (along (judge pool) fs ws at made)
+unfolding along
+along-moved pool [] ws at made = refl
+along-moved pool (f ∷ fs) ws at made = go (judge pool f ws) (λ t m. along-moved pool fs (drop t ws) (at + t) (made + m))
+  where
+    go : (l : Leaf)
+        → ((t m : ℕ) → along (judge pool) fs (drop t ws) (1 + (at + t)) (made + m) ≡ moved (along (judge pool) fs (drop t ws) (at + t) (made + m)))
+        → next l (λ t m. along (judge pool) fs (drop t ws) (1 + at + t) (made + m)) (1 + at)
+        ≡ moved (next l (λ t m. along (judge pool) fs (drop t ws) (at + t) (made + m)) at)
+    go (Fine t m) ih =
+        let p : 1 + at + t ≡ 1 + (at + t) = omega arith in
+        ap (λ k. along (judge pool) fs (drop t ws) k (made + m)) p ∙ ih t m
+    go (Bad w j) ih =
+        let p : 1 + at + j ≡ 1 + (at + j) = omega arith in
+        ap (Bad w) p
+
+module _ (s : Shape) (pool words : List ℕ) where
+  abbrev W : ℕ
+  W = widths (opening s)
+
+  -- the count, and the words behind the opening
+  count-moved : word (0 ∷ words) (1 + W) ≡ word words (0 + W)
+  count-moved = let p : W ≡ 0 + W = omega arith in word-at (0 ∷ words) 1 W ∙ ap (λ k. word words k) p
+
+  words-moved : drop (1 + W) (0 ∷ words) ≡ drop (0 + W) words
+  words-moved = let p : W ≡ 0 + W = omega arith in sym (drop-drop W 1 (0 ∷ words)) ∙ ap (λ k. drop k words) p
+
+  abbrev behind : ℕ → List Field
+  behind n = pick (s .counted) (field.Index ∷ (repeated n (group s) ++ closing s)) (closing s)
+
+  width-moved : rowWidth s (0 ∷ words) 1 ≡ 1 + rowWidth s words 0
+  unfolding rowWidth
+  width-moved = omega (arith, ap (λ n. pick (s .counted) (1 + n * widths (group s)) 0) count-moved)
+
+  judged-moved : judged s pool (0 ∷ words) 1 ≡ moved (judged s pool words 0)
+  judged-moved =
+      judged-along s pool (0 ∷ words) 1
+      ∙ ap (λ n. along (judge pool) (opening s ++ behind n) words 1 0) count-moved
+      ∙ along-moved pool (allFields s words 0) words 0 0
+      ∙ ap moved (sym (judged-along s pool words 0))
+
+  module _ {n : ℕ} where
+    -- a row behind a kind that has a size: so have its words
+    pub row-step : measuredRow (Is s) (0 ∷ words) pool ≡ Size n → measured s words 0 pool ≡ Size n
+    unfolding measured sized
+    row-step e = go (judged s pool words 0) refl
+      where
+        shaped : Accepted (Is s) (0 ∷ words) pool n → Sized s (0 ∷ words) 1 pool n
+        shaped a = let h = a .is in let same : a .shape ≡ s = cc in subst (λ x. Sized x (0 ∷ words) 1 pool n) same (a .sized)
+
+        k : Sized s (0 ∷ words) 1 pool n
+        k = shaped (accepted (Is s) (0 ∷ words) pool n e)
+
+        few : n < 2 ^ 32
+        few = row-held s (0 ∷ words) pool e .few
+
+        width : rowWidth s words 0 ≡ length words
+        width = omega (arith, k .width, width-moved)
+
+        short : length words ≤ 16384
+        short = omega (arith, k .short)
+
+        go : (l : Leaf) → judged s pool words 0 ≡ l → measured s words 0 pool ≡ Size n
+        go (Fine a m) p =
+            let r : Fine (1 + a) m ≡ Fine (k .end) n = ap moved (sym p) ∙ sym judged-moved ∙ k .judges in
+            let same : m ≡ n = cc in
+            let small : m ≤ 4294967295 = omega (arith, same, few) in
+            simp (le-ltb _ _ short, le-ltb _ _ (k .small), eq-eqb _ _ width, p, le-ltb _ _ small) (ap Size same)
+        go (Bad w j) p =
+            let r : Bad w (1 + j) ≡ Fine (k .end) n = ap moved (sym p) ∙ sym judged-moved ∙ k .judges in
+            let z : _≡_ {A = ℕ} 0 1 = cc in
+            absurd (omega arith)
+
+    -- and the other way, with the same bytes
+    pub step-row : Sized s words 0 pool n → length words < 16384 → n < 2 ^ 32
+        → (measuredRow (Is s) (0 ∷ words) pool ≡ Size n) × (written s pool words 0 ≡ rowBytes (Is s) pool (0 ∷ words))
+    unfolding rowBytes
+    step-row k short few = (
+      sized-accepted s (0 ∷ words) pool n
+          (record { width = omega (arith, k .width, width-moved); short = omega arith; small = k .small; end = 1 + k .end; judges = judges })
+          few,
+      written-right s pool words 0 (k .end) n (k .judges)
+          ∙ (λ i. strings pool (opening s) words
+          ++ pick (s .counted) (strings pool (field.Index ∷ (repeated (sym count-moved i) (group s) ++ closing s)) (sym words-moved i))
+          (strings pool (closing s) (sym words-moved i)))
+          ∙ sym (written-right s pool (0 ∷ words) 1 (1 + k .end) n judges),
+    )
+      where
+        judges : judged s pool (0 ∷ words) 1 ≡ Fine (1 + k .end) n
+        judges = judged-moved ∙ ap moved (k .judges)
+
+-- ---- a count and as many parameters, behind 40 or not
+
+abbrev pub paramsBytes : Bool → List ℕ → List ℕ → List ℕ
+paramsBytes first words pool =
+    paramsLead first ++ (unsigned (word words 0) ++ elements (word words 0) 4 (labelvaltype pool) (drop 1 words))
+
+abbrev L : Bool → Field
+L first = pick first (field.Fixed 0x40) field.Nothing
+
+lead-wide : (first : Bool) → wide (L first) ≡ 0
+unfolding wide
+lead-wide true = refl
+lead-wide false = refl
+
+lead-right : (first : Bool) (pool ws : List ℕ) → flaw pool (L first) ws ≡ Right
+unfolding flaw
+lead-right true pool ws = refl
+lead-right false pool ws = refl
+
+lead-bytes : (first : Bool) (pool ws : List ℕ) → bytes pool (L first) ws ≡ paramsLead first
+unfolding bytes
+lead-bytes true pool ws = refl
+lead-bytes false pool ws = refl
+
+pub record ParamsHeld (first : Bool) (words pool : List ℕ) (n : ℕ) : Type 0 where
+  pub width : length words ≡ 1 + word words 0 * 4
+  pub groups : Rights pool (repeated (word words 0) (field.Name ∷ field.Value ∷ [])) (drop 1 words)
+  pub size : n ≡ length (paramsBytes first words pool)
+  pub some : 0 < n
+  pub made : written (paramsShape first) pool words 0 ≡ paramsBytes first words pool
+
+module _ (first : Bool) (words pool : List ℕ) where
+  pub params-seen : length pool ≤ 65536 → length words ≤ 16384 → length words ≡ 1 + word words 0 * 4
+      → {base r : ℕ} → base ≡ length (paramsLead first) + length (unsigned (word words 0))
+      → Groups pool (field.Name ∷ field.Value ∷ []) (labelvaltype pool) (word words 0) (drop 1 words) base r → r < 2 ^ 32
+      → measured (paramsShape first) words 0 pool ≡ Size r
+  unfolding wide widths flaw bytes
+  params-seen small short width eb g few =
+      row-step (paramsShape first) pool words
+      (many-seen (L first) field.Nothing field.Nothing field.Name field.Value field.Nothing (lead-wide first) refl refl (0 ∷ words) pool
+      (λ ws. labelled-element pool ws) (lead-right first pool) (λ ws. refl) small (omega arith) (omega arith) (nothing-at pool words)
+      (omega (arith, ap length (lead-bytes first pool words))) g (nothing-at pool (drop (2 + word words 0 * 4) (0 ∷ words))) (omega arith) few)
+
+  pub params-held : {n : ℕ} → measured (paramsShape first) words 0 pool ≡ Size n → ParamsHeld first words pool n
+  unfolding wide widths bytes rowWidth
+  params-held {n} e =
+      record {
+        width = width;
+        groups = h .groups;
+        size = size-is-length k ∙ ap length made;
+        some = some;
+        made = made;
+      }
+    where
+      k : Sized (paramsShape first) words 0 pool n
+      k = measured-sized (paramsShape first) words 0 pool refl n e
+
+      width : length words ≡ 1 + word words 0 * 4
+      width =
+          let p : 0 + widths (opening (paramsShape first)) ≡ 0 = omega (arith, lead-wide first) in
+          omega (arith, k .width, lead-wide first, ap (λ j. word words j) p)
+
+      row : (measuredRow (Is (paramsShape first)) (0 ∷ words) pool ≡ Size n)
+          × (written (paramsShape first) pool words 0 ≡ rowBytes (Is (paramsShape first)) pool (0 ∷ words))
+      row = step-row (paramsShape first) pool words k (omega (arith, k .short, width)) (never-too-big k (λ c. omega arith))
+
+      h : ManyHeld (L first) field.Nothing field.Nothing field.Name field.Value field.Nothing 4 (labelvaltype pool) (0 ∷ words) pool n
+      h =
+          many-held (L first) field.Nothing field.Nothing field.Name field.Value field.Nothing (lead-wide first) refl refl (0 ∷ words) pool
+          (λ ws. labelled-element pool ws) (row .0)
+
+      made : written (paramsShape first) pool words 0 ≡ paramsBytes first words pool
+      made =
+          row .1 ∙ h .made
+          ∙ (λ i. lead-bytes first pool words i
+          ++ (unsigned (word words 0) ++ append-nil (elements (word words 0) 4 (labelvaltype pool) (drop 1 words)) i))
+
+      some : 0 < n
+      some = omega (arith, h .size, size-bounds 128 (word words 0) .0)
+
+-- how many bytes stand before the count, and what they leave
+pub lead-size : {first b : Bool} {head : ℕ} → first ≡ b → head ≡ length (paramsLead b) → head ≡ length (paramsLead first)
+lead-size e h = h ∙ ap (λ b. length (paramsLead b)) (sym e)
+
+module _ {first : Bool} {old one : List ℕ} {at to : ℕ} where
+  pub lead-first : first ≡ true → one ≡ set old at 0x40 → to ≡ at + 1 → Wrote old at (paramsLead first) to one
+  lead-first e p q = rw (e, p, q) (byte-wrote old at 0x40)
+
+  pub lead-none : first ≡ false → one ≡ old → to ≡ at → Wrote old at (paramsLead first) to one
+  lead-none e p q = rw (e, p, q) (nothing old at)
+
+module _ (first : Bool) (words pool old : List ℕ) (at : ℕ) (room : at + length (paramsBytes first words pool) ≤ length old) where
+  abbrev U : List ℕ
+  U = unsigned (word words 0)
+
+  abbrev G : List ℕ
+  G = elements (word words 0) 4 (labelvaltype pool) (drop 1 words)
+
+  pub lead-room : first ≡ true → at + 1 ≤ length old
+  lead-room e = room-first (0x40 ∷ []) (U ++ G) at (length old) (subst (λ b. at + length (paramsLead b ++ (U ++ G)) ≤ length old) e room)
+
+  module _ {one : List ℕ} {to : ℕ} (lead : Wrote old at (paramsLead first) to one) where
+    behind-lead : to + length (U ++ G) ≤ length one
+    behind-lead = room-then lead (U ++ G) room
+
+    pub count-wrote : {two : List ℕ} {p : Stored} {s : ℕ} → storing.left p two ≡ store (unsigned (word words 0)) to one → s ≡ valueOf p
+        → Wrote one to (unsigned (word words 0)) (to + s) two
+    count-wrote e v = of-store e v (room-first U G to (length one) behind-lead)
+
+    module _ {two : List ℕ} {next : ℕ} (count : Wrote one to (unsigned (word words 0)) next two) where
+      pub fields-room : next + length (elements (word words 0) 4 (labelvaltype pool) (drop 1 words)) ≤ length two
+      fields-room = room-then count G behind-lead
+
+      pub count-ends : next ≤ length old
+      count-ends = omega (arith, fields-room, same-size lead, same-size count)
+
+      pub params-wrote : {three : List ℕ} {end : ℕ} → Wrote two next (elements (word words 0) 4 (labelvaltype pool) (drop 1 words)) end three
+          → three ≡ sets old at (paramsBytes first words pool)
+      params-wrote w = then lead (then count w) .content
+
+      pub params-length : {three : List ℕ} {end : ℕ} → Wrote two next (elements (word words 0) 4 (labelvaltype pool) (drop 1 words)) end three
+          → length three ≡ length old
+      params-length w = same-size (then lead (then count w))
+
+-- ---- the result
+
+pub result-written : (tag x : ℕ) → written resultShape [] (tag ∷ x ∷ []) 0 ≡ resultlist tag x
+unfolding outs seq bytes judge flaw wide
+result-written tag x = append-nil (resultlist tag x)
+
+pub result-measured : {tag x r : ℕ} → OptionalSeen 2 tag x r → r ≤ 6 → measured resultShape (tag ∷ x ∷ []) 0 [] ≡ Size r
+unfolding wide
+result-measured {tag} {x} {r} o small =
+    row-step resultShape [] (tag ∷ x ∷ [])
+    (bare-seen field.Result field.Nothing (0 ∷ tag ∷ x ∷ []) [] (omega arith) (omega arith) refl (seen-result o []) (nothing-at [] [])
+    (omega arith) (omega arith))
+
+-- what has a size has the bytes of a result, one at least
+pub result-held : (tag x : ℕ) {n : ℕ} → measured resultShape (tag ∷ x ∷ []) 0 [] ≡ Size n → (n ≡ length (resultlist tag x)) × (0 < n)
+result-held tag x {n} e = (size, omega (arith, size, some))
+  where
+    size : n ≡ length (resultlist tag x)
+    size = size-is-length (measured-sized resultShape (tag ∷ x ∷ []) 0 [] refl n e) ∙ ap length (result-written tag x)
+
+    positive : (b : Bool) → 0 < pick b 2 (1 + length (valtype tag x))
+    positive true = omega arith
+    positive false = omega arith
+
+    some : 0 < length (resultlist tag x)
+    some = rw (result-length tag x) (positive (eqb tag 2))
+
+-- ---- the first byte
+
+pub async-written : (a : ℕ) → written asyncShape [] (a ∷ []) 0 ≡ functype a ∷ []
+unfolding outs seq bytes judge flaw wide
+async-written a = refl
+
+pub async-right : (a : ℕ) → a < 2 → measured asyncShape (a ∷ []) 0 [] ≡ Size 1
+unfolding measured sized rowWidth widths wide walk seq judge flaw bytes
+async-right a h = simp (lt-ltb a 2 h)
+
+pub async-wrong : (a : ℕ) → 2 ≤ a → measured asyncShape (a ∷ []) 0 [] ≡ Refused refusal.Tag 0
+unfolding measured sized rowWidth widths wide walk seq judge flaw bytes
+async-wrong a h = simp (le-ltb a 2 h)

@@ -1,0 +1,38 @@
+-- `fixed_row_size` meets its contract: what it tests is what `fixed-row` asks.
+use native.Mathlib.Omega.{arith}
+use denote.Ref.{now}
+use Rattle.numbers.proofs.LebLaws.{size-bounds}
+use Rattle.fields.specs.Binary.{word}
+use Rattle.writing.proofs.RowLaws.{value-small}
+use Rattle.types.proofs.SmallLaws.{fixed-row}
+use borrow.Author.Needs.{needs}
+use Rattle.types.proofs.small.fixed_row_size.Statement.{statement}
+use Rattle.types.proofs.small.fixed_row_size.Tie as tie
+
+add-result : tie.Need-add-result
+add-result c =
+    let row = now (c .before .before .before .before .before .before .args .row) in
+    omega (arith, c .before .value-size .ensures, value-small (word row 1) (word row 2))
+
+add-result-2 : tie.Need-add-result-2
+add-result-2 c =
+    let row = now (c .before .before .before .before .before .before .before .before .args .row) in
+    omega (
+      arith,
+      c .before .before .before .value-size .ensures,
+      value-small (word row 1) (word row 2),
+      c .unsigned-size .ensures,
+      size-bounds 128 (word row 3),
+    )
+
+returns : tie.Need-returns
+returns c =
+    λ h. fixed-row (now (c .before .before .before .before .before .before .before .before .args .row))
+    (c .before .before .before .value-size .ensures) (c .before .before .if2 .taken) (c .unsigned-size .ensures)
+    (c .before .before .before .before .before .before .if1 .taken)
+
+pub fixed-row-size-spec : {M : Type 1} → statement M
+fixed-row-size-spec =
+    tie.close
+    (tie.spec (search needs) (search needs) (search needs) add-result (search needs) (search needs) add-result-2
+    returns (λ c h. absurd (omega arith)) (λ c h. absurd (omega arith)))

@@ -1,0 +1,23 @@
+-- `put_index_row` meets its contract: a byte and a number are stored one after the other (`lead-wrote`).
+use denote.Ref.{now}
+use Rattle.fields.proofs.WroteLaws.{same-size}
+use Rattle.types.proofs.SmallLaws.{lead-wrote}
+use borrow.Author.Needs.{needs}
+use Rattle.types.proofs.small.put_index_row.Statement.{statement}
+use Rattle.types.proofs.small.put_index_row.Tie as tie
+
+same-length : tie.Need-same-length
+same-length c =
+    let a = c .before .before .before .before .before .before .before .args in
+    same-size (lead-wrote (now (a .out)) (a .to) (a .lead) (c .before .before .put-unsigned .ensures)
+    (c .before .before .before .before .before .before .before .pre .1))
+
+returns : tie.Need-returns
+returns c =
+    let a = c .before .before .before .before .before .before .before .args in
+    lead-wrote (now (a .out)) (a .to) (a .lead) (c .before .before .put-unsigned .ensures)
+    (c .before .before .before .before .before .before .before .pre .1) .content
+
+pub put-index-row-spec : {M : Type 1} → statement M
+put-index-row-spec =
+    tie.close (tie.spec (search needs) (search needs) (search needs) (search needs) same-length returns)
