@@ -114,11 +114,35 @@ pub fn write_small(row: &[u32], pool: &[u8], out: &mut [u8], at: usize) -> usize
         return 0;
     }
     match fields::kind_of(row) {
+        // a primitive
+        0 => {
+            let size = small::primitive_size(row);
+            if fits(size, at, out.len()) {
+                small::put_primitive(row, out, at);
+                return size;
+            }
+        }
         // list
         3 => {
             let size = small::value_row_size(row);
             if fits(size, at, out.len()) {
                 small::put_value_row(0x70, row, out, at);
+                return size;
+            }
+        }
+        // map
+        4 => {
+            let size = small::values_row_size(row);
+            if fits(size, at, out.len()) {
+                small::put_values_row(0x63, row, out, at);
+                return size;
+            }
+        }
+        // list of fixed length
+        5 => {
+            let size = small::fixed_row_size(row);
+            if fits(size, at, out.len()) {
+                small::put_fixed_row(0x67, row, out, at);
                 return size;
             }
         }
@@ -151,6 +175,30 @@ pub fn write_small(row: &[u32], pool: &[u8], out: &mut [u8], at: usize) -> usize
             let size = small::index_row_size(row);
             if fits(size, at, out.len()) {
                 small::put_index_row(0x68, row, out, at);
+                return size;
+            }
+        }
+        // future
+        13 => {
+            let size = small::optional_row_size(row);
+            if fits(size, at, out.len()) {
+                small::put_optional_row(0x65, row, out, at);
+                return size;
+            }
+        }
+        // stream
+        14 => {
+            let size = small::optional_row_size(row);
+            if fits(size, at, out.len()) {
+                small::put_optional_row(0x66, row, out, at);
+                return size;
+            }
+        }
+        // resource
+        16 => {
+            let size = small::resource_size(row);
+            if fits(size, at, out.len()) {
+                small::put_resource(0x3f, row, out, at);
                 return size;
             }
         }
