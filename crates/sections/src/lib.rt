@@ -57,12 +57,12 @@ pub fn write_by(family: u32, row: &[u32], pool: &[u8], body: &mut [u8], at: usiz
     ensures { λ r. ⌜ left r (now (body .exit)) ≡ writeFamily family (now (row .entry)) (now (pool .entry)) (now (body .entry)) at ⌝ }
 {
     if family == 7 {
-        return types::write(row, pool, body, at);
+        return types::write(&row[0..], &pool[0..], body, at);
     }
     if family == 8 {
-        return canonicals::write(row, pool, body, at);
+        return canonicals::write(&row[0..], &pool[0..], body, at);
     }
-    imports::write(row, pool, body, at)
+    imports::write(&row[0..], &pool[0..], body, at)
 }
 
 impl Phase {

@@ -13,7 +13,7 @@ use Rattle.numbers.specs.Leb.{unsigned, signed}
 use Rattle.numbers.specs.Text.{text}
 use Rattle.numbers.specs.declared.bytes.Stored.{Stored}
 use Rattle.numbers.specs.declared.bytes.Stored.the-variants.{Size, Room}
-use Rattle.numbers.proofs.BytesLaws.{sets-append, store-fits, store-room}
+use Rattle.numbers.proofs.BytesLaws.{sets-append, store-fits, store-room, part-inside}
 use Rattle.fields.specs.declared.Field.the-variants as field
 use Rattle.fields.specs.Binary.{chars, valtype, bytes}
 use Rattle.fields.specs.Judge.{value, named, flaw}
@@ -76,29 +76,25 @@ module _ (pool : List ℕ) where
 
 -- ---- storing
 
--- a part has at most the bytes that were asked for
-pub part-small : (input : List ℕ) (start size : ℕ) → length (partOf input start size) ≤ size
-unfolding partOf
-part-small input start size = go (leb (start + size) (length input)) refl
-  where
-    go : (t : Bool) → leb (start + size) (length input) ≡ t → length (cond t (take size (drop start input)) []) ≤ size
-    go true e =
-        rw (length-take-le size (drop start input) (rw length-drop (omega (arith, leb-true (start + size) (length input) e)))) (omega arith)
-    go false e = omega arith
+-- a part within the pool has the bytes that were asked for
+pub part-length :
+    (input : List ℕ) (start size : ℕ) → start + size ≤ length input → length (partOf input start size) ≡ size
+part-length input start size h =
+    rw (part-inside input start size h) (length-take-le size (drop start input) (rw length-drop (omega arith)))
 
 -- bytes for which there is no room together
 pub store-none :
-    (a b : List ℕ) (at : ℕ) (l : List ℕ) → length l < at + (length a + length b)
-    → store (a ++ b) at l ≡ left (Room (length a + length b)) l
-store-none a b at l h = rw (store-room (a ++ b) at l (omega (arith, length-append a b)), length-append) refl
+    (a b : List ℕ) (at : ℕ) (l : List ℕ) {n : ℕ} → length b ≡ n → length l < at + (length a + n)
+    → store (a ++ b) at l ≡ left (Room (length a + n)) l
+store-none a b at l e h = rw (store-room (a ++ b) at l (omega (arith, length-append a b)), length-append, e) refl
 
 -- bytes stored one after the other, for which there is room, are stored at once
 pub stored-then :
-    (a b : List ℕ) (at : ℕ) (l : List ℕ) {m n : List ℕ} {r q : Stored} → at + (length a + length b) ≤ length l
-    → left r m ≡ store a at l → left q n ≡ store b (at + length a) m → left (Size (length a + length b)) n ≡ store (a ++ b) at l
-stored-then a b at l {m} {n} h e d =
+    (a b : List ℕ) (at : ℕ) (l : List ℕ) {k : ℕ} {m n : List ℕ} {r q : Stored} → length b ≡ k → at + (length a + k) ≤ length l
+    → left r m ≡ store a at l → left q n ≡ store b (at + length a) m → left (Size (length a + k)) n ≡ store (a ++ b) at l
+stored-then a b at l {m = m} {n = n} s h e d =
     let one : m ≡ sets l at a = ap (λ (x : Left). x .buffer) (e ∙ store-fits a at l (omega arith)) in
     let same : length m ≡ length l = ap length one ∙ length-sets l at a in
     let two : n ≡ sets m (at + length a) b = ap (λ (x : Left). x .buffer) (d ∙ store-fits b (at + length a) m (omega arith)) in
-    rw (store-fits (a ++ b) at l (omega (arith, length-append a b)), length-append)
-    (ap (left (Size (length a + length b))) (two ∙ rw one (sets-append a b l at)))
+    rw (store-fits (a ++ b) at l (omega (arith, length-append a b)), length-append, s)
+    (ap (left (Size (length a + _))) (two ∙ rw one (sets-append a b l at)))

@@ -85,9 +85,13 @@ pub fn put_value(tag: u32, x: u32, at: usize, out: &mut [u8]) -> Stored
 pub fn put_name(pool: &[u8], start: u32, size: u32, at: usize, out: &mut [u8]) -> Stored
     ensures { λ r. ⌜ left r (now (out .exit)) ≡ store (unsigned size ++ partOf (now (pool .entry)) start size) at (now (out .entry)) ⌝ }
 {
-    let chars = numbers::part(pool, start as usize, size as usize);
+    let from = start as usize;
+    let end = from + (size as usize);
+    if pool.len() < end {
+        return numbers::put_unsigned(size, at, out);
+    }
     let head = numbers::unsigned_size(size);
-    let all = head + chars.len();
+    let all = head + (size as usize);
     if out.len() < at {
         return Stored::Room(all);
     }
@@ -95,6 +99,6 @@ pub fn put_name(pool: &[u8], start: u32, size: u32, at: usize, out: &mut [u8]) -
         return Stored::Room(all);
     }
     numbers::put_unsigned(size, at, out);
-    numbers::copy(chars, at + head, out);
+    numbers::copy(&pool[from..end], at + head, out);
     Stored::Size(all)
 }

@@ -14,7 +14,7 @@ returns c =
 
 returns-2 : tie.Need-returns-2
 unfolding valtype
-returns-2 c = simp (ne-eqb _ _ (c .before .before .before .before .if1 .left)) (c .before .before .put-signed .ensures)
+returns-2 c = simp (ne-eqb _ _ (c .before .before .before .before .if1 .left)) (search needs)
 
 pub put-value-spec : {M : Type 1} → statement M
 put-value-spec =
