@@ -44,11 +44,13 @@ pub const GROWING: [Plan; 4] = [
 
 /// Loads whose size is the number of rows, all of them made anew. Scripts are mixed within a name. wasmparser 0.239 reads no
 /// import with options and no async function.
-pub const VARIOUS: [Plan; 15] = [
+pub const VARIOUS: [Plan; 17] = [
     by_rows("canonicals", WRITE, |rows| in_a_section(rows, CANONICAL, &[LATIN], any)),
     by_rows("lift-lower", WRITE, |rows| in_a_section(rows, 0x100..=0x101, &[LATIN], any)),
     by_rows("import-options", WRITE, |rows| in_a_section(rows, IMPORT, &[LATIN], has_options)),
     by_rows("index-lists", WRITE_READ, |rows| in_a_section(rows, 3..=3, &[LATIN], |row| row[1] == 1)),
+    by_rows("results", WRITE_READ, |rows| in_a_section(rows, 10..=10, &[LATIN], any)),
+    by_rows("variants", WRITE_READ, |rows| in_a_section(rows, 2..=2, &[LATIN], any)),
     by_rows("enums", WRITE_READ, |rows| in_a_section(rows, 8..=8, &[LATIN], any)),
     by_rows("functions", WRITE_READ, |rows| in_a_section(rows, 15..=15, &[LATIN], |row| row[1] == 0)),
     by_rows("cyrillic", WRITE_READ, |rows| in_a_section(rows, 1..=1, &[CYRILLIC], any)),

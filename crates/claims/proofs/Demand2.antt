@@ -10,6 +10,7 @@ use lib.ListN.{length, take, drop}
 use lib.Seq.{sets}
 use Rattle.numbers.specs.Bytes.{Bytes}
 use Rattle.numbers.specs.Leb.{bytesOf, unsigned}
+use Rattle.numbers.proofs.LebLaws.{all-bytes}
 use Rattle.fields.specs.declared.Answer.{Answer}
 use Rattle.fields.specs.declared.Answer.the-variants.{Size, Refused}
 use Rattle.fields.specs.declared.Field.the-variants as field
@@ -317,13 +318,7 @@ made-sheet input body out size e = go (ltb 65536 (length input)) e
 
 -- a number's bytes are bytes
 leb-bytes : (k n : ℕ) → ByteList (bytesOf 128 k n)
-unfolding bytesOf
-leb-bytes zero n = none
-leb-bytes (suc k) n = go (ltb n 128) refl (leb-bytes k (n / 128))
-  where
-    go : (b : Bool) → ltb n 128 ≡ b → ByteList (bytesOf 128 k (n / 128)) → ByteList (cond b (n ∷ []) ((n % 128 + 128) ∷ bytesOf 128 k (n / 128)))
-    go true e f = let h : n < 128 = ltb-true n 128 e in some {b = n} (omega arith) none
-    go false e f = some {b = n % 128 + 128} (omega arith) f
+leb-bytes k n = of-bytes (bytesOf 128 k n) (all-bytes 128 k n (omega arith))
 
 -- and so are those behind others
 back-bytes : (a : List ℕ) {b : List ℕ} → ByteList (a ++ b) → ByteList b

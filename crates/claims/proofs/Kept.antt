@@ -14,7 +14,7 @@ use Rattle.numbers.specs.Bytes.{store, partOf}
 use Rattle.numbers.specs.Leb.{unsigned, signed}
 use Rattle.numbers.specs.Numbers as numbers
 use Rattle.numbers.specs.declared.bytes.Stored.the-variants as held
-use Rattle.numbers.proofs.BytesLaws.{sets-outside}
+use Rattle.numbers.proofs.BytesLaws.{sets-outside, store-either}
 use Rattle.fields.specs.declared.Answer.{Answer}
 use Rattle.fields.specs.declared.Answer.the-variants.{Size, Refused}
 use Rattle.fields.specs.declared.Field.the-variants as field
@@ -27,10 +27,8 @@ use Rattle.fields.specs.declared.Read.the-variants as read
 use Rattle.fields.specs.declared.Refusal.{Refusal}
 use Rattle.fields.specs.declared.Refusal.the-variants as refusal
 use Rattle.fields.specs.declared.Shape.{Shape}
-use Rattle.fields.specs.declared.form.Form.the-variants as form
 use Rattle.fields.specs.Binary.{pick, word, valtype}
 use Rattle.fields.specs.Fill.{fill}
-use Rattle.fields.specs.Form.{foundIn}
 use Rattle.fields.specs.Judge.{wide}
 use Rattle.fields.specs.Read.{LeftRow, leftRow, reader, scanned, filled, roomed, readFound, readItem}
 use Rattle.fields.specs.Scan.{scan}
@@ -108,12 +106,8 @@ kept-stored at size vs l e =
 -- ---- numbers
 
 stores : (src : List ℕ) (at : ℕ) (out : List ℕ) → Stores at out (store src at out)
-unfolding store numbers.numberOf numbers.valueOf
-stores src at out = go (leb (at + length src) (length out))
-  where
-    go : (b : Bool) → Stores at out (cond b (bytes.left (held.Size (length src)) (sets out at src)) (bytes.left (held.Room (length src)) out))
-    go true = kept-stored at (length src) src out refl
-    go false = kept-as-was _ at _ out
+unfolding numbers.numberOf numbers.valueOf
+stores src at out = store-either (Stores at out) src at out (kept-stored at (length src) src out refl) (kept-as-was _ at _ out)
 
 -- ---- writing
 
@@ -483,9 +477,6 @@ changes-nothing-else =
       copy = stores;
       put-unsigned = λ n. stores (unsigned n);
       put-signed = λ n. stores (signed n);
-      read-item = reads-item;
-      read-form = λ f. reads-item (foundIn f);
-      read-import-form = reads-item (foundIn form.Import);
       put-value = λ tag x. stores (valtype tag x);
       put-name = λ pool start size. stores (unsigned size ++ partOf pool start size);
       write-type = writes-type;

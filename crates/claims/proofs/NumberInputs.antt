@@ -9,9 +9,9 @@ use lib.ListN.{length, take, replicate, length-take, length-replicate}
 use Rattle.numbers.specs.Leb.{bytesOf}
 use Rattle.fields.specs.declared.Found.{Found}
 use Rattle.fields.specs.declared.Shape.{Shape}
-use Rattle.fields.specs.declared.form.Form.{Form}
-use Rattle.fields.specs.declared.form.Form.the-variants as form
-use Rattle.fields.specs.Form.{formShape, foundIn}
+use Rattle.fields.specs.declared.Found.the-variants as found
+use Rattle.fields.specs.declared.Field.the-variants as field
+use Rattle.fields.specs.Table.{twoOf}
 use Rattle.fields.specs.Write.{numberOfRefusal, numberOf}
 use Rattle.sections.specs.declared.Phase.{Phase}
 use Rattle.sections.specs.declared.Phase.the-variants.{Closed, Opened, Parametered}
@@ -119,23 +119,20 @@ writtenImports = written imports (import 0 1)
 abbrev pub writtenCanonicals : List (List ℕ × List ℕ × List ℕ × ℕ)
 writtenCanonicals = written canonicals (261 ∷ [])
 
--- ---- the same imports by their form and by its shape, which ask for no kind; and a row that is TOO_BIG
+-- ---- the same imports by their shape, which asks for no kind; and a row that is TOO_BIG
 
-abbrev pub formRows : List (List ℕ × List ℕ)
-formRows = (import 0 1, []) ∷ (zeros 16385, []) ∷ wrongImports
-
-abbrev pub forms : List (Form × List ℕ × List ℕ)
-forms =
-    (form.Import, import 0 1, [])
-    ∷ (form.Import, zeros 16385, [])
-    ∷ (form.Not, import 0 1, [])
-    ∷ each (λ x. (form.Import, x .0, x .1)) wrongImports
+abbrev pub importShape : Shape
+importShape = twoOf field.Nothing field.Nothing field.ExternName field.Reference
 
 abbrev pub shapes : List (Shape × List ℕ × ℕ × List ℕ)
-shapes = each (λ x. (formShape form.Import, x .0, 1, x .1)) formRows
+shapes = each (λ x. (importShape, x .0, 1, x .1)) ((import 0 1, []) ∷ (zeros 16385, []) ∷ wrongImports)
 
 abbrev pub founds : List (Found × List ℕ × List ℕ)
-founds = each (λ x. (foundIn (x .0), x .1, x .2)) forms
+founds =
+    (found.Is importShape, import 0 1, [])
+    ∷ (found.Is importShape, zeros 16385, [])
+    ∷ (found.Not, import 0 1, [])
+    ∷ each (λ x. (found.Is importShape, x .0, x .1)) wrongImports
 
 abbrev pub bigRow : List ℕ
 bigRow = 0 ∷ 4294967295 ∷ []
@@ -166,14 +163,17 @@ readImports =
     ∷ (1, 0x02 ∷ [], room ++ room)
     ∷ []
 
-abbrev pub readImportForms : List (ℕ × ℕ × ℕ × List ℕ × List ℕ)
-readImportForms = each (λ x. (17, 1, x .0, x .1, x .2)) readImports
-
-abbrev pub readForms : List (Form × ℕ × ℕ × ℕ × List ℕ × List ℕ)
-readForms = each (λ x. (form.Import, 17, 1, x .0, x .1, x .2)) readImports
-
-abbrev pub readItems : List (Found × ℕ × ℕ × ℕ × List ℕ × List ℕ)
-readItems = each (λ x. (foundIn form.Import, 17, 1, x .0, x .1, x .2)) readImports
+-- those that are refused, and one that is whole
+abbrev pub refusedItems : List (Found × ℕ × ℕ × List ℕ)
+refusedItems =
+    (found.Is importShape, 1, 0, 0x00 ∷ 0x00 ∷ 0x01 ∷ 0x00 ∷ [])
+    ∷ (found.Is importShape, 1, 1, 0x00 ∷ 0x01 ∷ 0xff ∷ [])
+    ∷ (found.Is importShape, 1, 1, 0x00 ∷ 0x00 ∷ 0x01 ∷ 0x00 ∷ [])
+    ∷ (found.Is importShape, 1, 1, [])
+    ∷ (found.Is importShape, 1, 1, 0x01 ∷ [])
+    ∷ (found.Is importShape, 1, 1, 0x00 ∷ 0x80 ∷ 0x00 ∷ [])
+    ∷ (found.Is importShape, 1, 1, 0x02 ∷ [])
+    ∷ []
 
 -- ---- sections
 

@@ -27,6 +27,7 @@ use Rattle.fields.specs.declared.Refusal.the-variants as refusal
 use Rattle.fields.specs.declared.Shape.{Shape}
 use Rattle.fields.specs.Binary.{pick, word, chars, indexed, bytes}
 use Rattle.fields.specs.Judge.{wide, then, below, unused, value, optionalValue, named, optionalIndex, choice, optionalName, reference, flaw, unless, judge}
+use Rattle.fields.specs.Read.{refusalOf}
 use Rattle.fields.specs.Row.{measuredFound, measuredRow}
 use Rattle.fields.specs.Shape.{opening, group, closing, repeated, seq, counts, plan, widths, rowWidth}
 use Rattle.fields.specs.Table.{Line, shapeIn}
@@ -82,6 +83,11 @@ told ns (Refused w n) h = inr (among (numberOfRefusal w) ns h)
 pub read-told : (ns : List ℕ) (r : Read) → TellsRead (Listed ns) r → Among (numberOfRead r) (0 ∷ ns)
 read-told ns (read.Item words bytes) h = inl refl
 read-told ns (read.Refused w n) h = inr (among (numberOfRefusal w) ns h)
+
+-- of a refusal the number is no 0
+pub refusal-told : (ns : List ℕ) (l : Leaf) → TellsRead (Listed ns) (refusalOf l) → Among (numberOfRead (refusalOf l)) ns
+refusal-told ns (Fine e q) h = among (numberOfRefusal refusal.Room) ns h
+refusal-told ns (Bad w j) h = among (numberOfRefusal w) ns h
 
 -- what holds both ways holds of a test
 pub on-test : {X : Type 0} (Q : X → Type 0) (b : Bool) {x y : X} → Q x → Q y → Q (pick b x y)

@@ -15,10 +15,9 @@ use Rattle.numbers.specs.Bytes.{left, store, partOf}
 use Rattle.numbers.specs.Leb.{bytesOf, unsigned, signed, takeIn, within32, numberIn, more, takeUnsigned, takeSigned}
 use Rattle.numbers.specs.Numbers as numbers
 use Rattle.numbers.specs.Text as text
+use Rattle.numbers.proofs.BytesLaws.{store-either}
 use Rattle.fields.specs.declared.Found.{Found}
 use Rattle.fields.specs.declared.Found.the-variants as found
-use Rattle.fields.specs.declared.form.Form.{Form}
-use Rattle.fields.specs.declared.form.Form.the-variants as form
 use Rattle.fields.specs.declared.Read.{Read}
 use Rattle.fields.specs.declared.Read.the-variants as read
 use Rattle.fields.specs.declared.Refusal.{Refusal}
@@ -26,9 +25,8 @@ use Rattle.fields.specs.declared.Refusal.the-variants as refusal
 use Rattle.fields.specs.declared.Shape.{Shape}
 use Rattle.fields.specs.Binary.{name, primvaltype, valtype, optional, resultlist, functype, flag, representation, destructor, indexed, canonopt, slotAt, slotsAt, slots, externname, typebound, externdesc, bytes}
 use Rattle.fields.specs.Fill.{primitive, fillValue, fillName, fill}
-use Rattle.fields.specs.Form.{formShape, foundIn}
 use Rattle.fields.specs.Judge.{wide, value, optionalValue, named, optionalName, reference, flaw, judge}
-use Rattle.fields.specs.Read.{roomed, readItem}
+use Rattle.fields.specs.Read.{roomed, readItem, scannedItem, refusalOf}
 use Rattle.fields.specs.Row.{measuredRow, rowBytes, writeRow}
 use Rattle.fields.specs.Scan.{scanIndex, scanName, scanPrimitive, scanValue, headScan, firstScan, secondScan, scanExtern, scanReference, slotScan, endScan, scan}
 use Rattle.fields.specs.Shape.{plan, repeated, seq, widths, rowWidth}
@@ -59,8 +57,8 @@ use Rattle.fields.specs.Scan.{byte}
 use Rattle.claims.specs.Kept.{numberOfRead}
 use Rattle.claims.specs.Numbers.{Among, Met, Exactly, RefusesBy}
 use Rattle.claims.proofs.BigShape.{bytesShape, big-measured, big-row}
-use Rattle.claims.proofs.NumberLaws.{Listed, Tells, told, read-told, each-any, Allowed, all-allowed, Basic, Measures, measured-why, measured-row-why, stored-why, nameless-plan, never-big}
-use Rattle.claims.proofs.ReadNumbers.{item-why}
+use Rattle.claims.proofs.NumberLaws.{Listed, Tells, told, read-told, refusal-told, each-any, Allowed, all-allowed, Basic, Measures, measured-why, measured-row-why, stored-why, nameless-plan, never-big}
+use Rattle.claims.proofs.ReadNumbers.{item-why, refusal-why}
 use Rattle.claims.proofs.StepNumbers.{Named, type-why, import-why, canonical-why, write-type-why, write-import-why, write-canonical-why, write-family-why, row-why, open-why, async-why, params-why, result-why, abandon-why, finish-why, sheet-why}
 use Rattle.claims.proofs.NumberInputs as input
 use Rattle.claims.proofs.NumberInputs.{each, meets, zeros, zeros-length, too-big}
@@ -80,12 +78,9 @@ exactly-but {A} {f} ns n ms other xs d one ys e = record { no-other = other; met
 -- ---- numbers
 
 store-numbers : (bs : List ℕ) (at : ℕ) (out : List ℕ) → Among (numbers.numberOf (store bs at out .answer)) (0 ∷ 8 ∷ [])
-unfolding store numbers.numberOf
-store-numbers bs at out = go (leb (at + length bs) (length out))
-  where
-    go : (b : Bool) → Among (numbers.numberOf (cond b (left (Size (length bs)) (sets out at bs)) (left (Room (length bs)) out) .answer)) (0 ∷ 8 ∷ [])
-    go true = inl refl
-    go false = inr (inl refl)
+unfolding numbers.numberOf
+store-numbers bs at out =
+    store-either (λ l. Among (numbers.numberOf (l .answer)) (0 ∷ 8 ∷ [])) bs at out (inl refl) (inr (inl refl))
 
 take-numbers : (t : Taken) → Among (numbers.numberOfTaken t) (0 ∷ 11 ∷ 13 ∷ [])
 unfolding numbers.numberOfTaken
@@ -194,6 +189,14 @@ item-numbers found kind lead g input row =
     let ns : List ℕ = 1 ∷ 6 ∷ 8 ∷ 11 ∷ 12 ∷ 13 ∷ 14 ∷ [] in
     read-told ns (readItem found kind lead g input row .answer)
     (item-why (Listed ns) (record { text = refl; cut = refl; code = refl; number = refl; newer = refl }) refl refl found kind lead g input row)
+
+refusal-numbers : (found : Found) (lead g : ℕ) (input : List ℕ)
+    → Among (numberOfRead (refusalOf (scannedItem found lead g input))) (1 ∷ 6 ∷ 8 ∷ 11 ∷ 12 ∷ 13 ∷ 14 ∷ [])
+unfolding numberOfRefusal
+refusal-numbers found lead g input =
+    let ns : List ℕ = 1 ∷ 6 ∷ 8 ∷ 11 ∷ 12 ∷ 13 ∷ 14 ∷ [] in
+    refusal-told ns (scannedItem found lead g input)
+    (refusal-why (Listed ns) (record { text = refl; cut = refl; code = refl; number = refl; newer = refl }) refl refl found lead g input)
 
 read-type-numbers : (g : ℕ) (input row : List ℕ)
     → Among (numberOfRead (readType g input row .answer)) (0 ∷ 1 ∷ 6 ∷ 8 ∷ 11 ∷ 12 ∷ 13 ∷ 14 ∷ [])
@@ -332,7 +335,7 @@ long =
     (too-big 4294967295 (omega arith) (zeros 4294967295) input.room (zeros-length 4294967295))
 
 pub refuses-by : RefusesBy
-unfolding store partOf bytesOf takeIn within32 numberIn more numbers.numberOf numbers.numberOfTaken text.text text.rest text.step name primvaltype valtype optional resultlist functype flag representation destructor indexed canonopt slotAt slotsAt slots externname typebound externdesc bytes wide value optionalValue named optionalName reference flaw judge measuredRow rowBytes writeRow repeated seq widths rowWidth shapeIn formShape foundIn view walk outs numberOfRefusal numberOf sized measured stored writeShape measuredType writeType measuredImport writeImport measuredCanonical canonicalBytes writeCanonical kindIn kindOf leadGrade readType readImport readItem roomed scanIndex scanName scanPrimitive scanValue headScan firstScan secondScan scanExtern scanReference slotScan endScan scan primitive fillValue fillName fill knownFamily holdsAt sounds measuredFamily familyBytes writeFamily rowing opening asyncing paraming resulting abandoning framing finishing number words rowsFrom frame.framed familyOf tries joined finished sheeted given
+unfolding store partOf bytesOf takeIn within32 numberIn more numbers.numberOf numbers.numberOfTaken text.text text.rest text.step name primvaltype valtype optional resultlist functype flag representation destructor indexed canonopt slotAt slotsAt slots externname typebound externdesc bytes wide value optionalValue named optionalName reference flaw judge measuredRow rowBytes writeRow repeated seq widths rowWidth shapeIn view walk outs numberOfRefusal numberOf sized measured stored writeShape measuredType writeType measuredImport writeImport measuredCanonical canonicalBytes writeCanonical kindIn kindOf leadGrade readType readImport readItem scannedItem roomed scanIndex scanName scanPrimitive scanValue headScan firstScan secondScan scanExtern scanReference slotScan endScan scan primitive fillValue fillName fill knownFamily holdsAt sounds measuredFamily familyBytes writeFamily rowing opening asyncing paraming resulting abandoning framing finishing number words rowsFrom frame.framed familyOf tries joined finished sheeted given
 refuses-by =
     record {
       copy = exactly (λ x. store-numbers (x .0) (x .1) (x .2)) input.copies refl;
@@ -346,9 +349,7 @@ refuses-by =
       measure-row =
           exactly-but (0 ∷ 1 ∷ 2 ∷ 3 ∷ 4 ∷ 5 ∷ 6 ∷ []) 7 [] (λ x. found-numbers (x .1) (x .2) (x .0)) input.founds (rw (zeros-length 16385)) big-found
           [] refl;
-      read-item = exactly (λ x. item-numbers (x .0) (x .1) (x .2) (x .3) (x .4) (x .5)) input.readItems refl;
-      read-form = exactly (λ x. item-numbers (foundIn (x .0)) (x .1) (x .2) (x .3) (x .4) (x .5)) input.readForms refl;
-      read-import-form = exactly (λ x. item-numbers (foundIn form.Import) (x .0) (x .1) (x .2) (x .3) (x .4)) input.readImportForms refl;
+      item-refusal = exactly (λ x. refusal-numbers (x .0) (x .1) (x .2) (x .3)) input.refusedItems refl;
       put-value = exactly (λ x. store-numbers (valtype (x .0) (x .1)) (x .2) (x .3)) input.values refl;
       put-name = exactly (λ x. store-numbers (unsigned (x .2) ++ partOf (x .0) (x .1) (x .2)) (x .3) (x .4)) input.names refl;
       measure-type = exactly (λ x. type-numbers (x .0) (x .1)) input.types (rw (zeros-length 16385));

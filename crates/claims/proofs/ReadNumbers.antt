@@ -16,7 +16,7 @@ use Rattle.fields.specs.declared.Leaf.the-variants.{Fine, Bad}
 use Rattle.fields.specs.declared.Refusal.{Refusal}
 use Rattle.fields.specs.declared.Refusal.the-variants as refusal
 use Rattle.fields.specs.Binary.{indexed}
-use Rattle.fields.specs.Read.{LeftRow, reader, scanned, filled, roomed, readFound, readItem}
+use Rattle.fields.specs.Read.{LeftRow, reader, scanned, filled, roomed, readFound, readItem, scannedFound, scannedItem, refusalOf}
 use Rattle.fields.specs.Scan.{byte, there, asked, past, numbered, scanIndex, named, scanName, scanPrimitive, scanValue, zeroAt, either, scanOptional, thenZero, scanResult, scanChoice, onward, stringAt, counted, countAt, slotScan, endScan, headScan, firstScan, secondScan, scanExtern, scanBound, scanModule, three, scanReference, scanEither, scanOptionalIndex, scan}
 use Rattle.fields.specs.Shape.{plan}
 use Rattle.claims.proofs.NumberLaws.{Ends, TellsRead, on-test, each-any, walk-why}
@@ -206,3 +206,21 @@ module _ (P : Refusal → Type 0) (h : Scans P) where
         on-test Says (ltb (2 ^ 30) (length input)) limit
         (on-test Says (ltb g 1) limit
         (on-test Says (ltb 3 g) limit (on-test Says (eqb (length input) 0) (h .cut) (found-why found kind lead g input row))))
+
+    -- an item that is not read
+    pub refusal-why : (found : Found) (lead g : ℕ) (input : List ℕ) → TellsRead P (refusalOf (scannedItem found lead g input))
+    unfolding scannedItem
+    refusal-why found lead g input =
+        refused (scannedItem found lead g input)
+        (on-test Why (ltb (2 ^ 30) (length input)) limit
+        (on-test Why (ltb g 1) limit (on-test Why (ltb 3 g) limit (on-test Why (eqb (length input) 0) (h .cut) (scanned-why found)))))
+      where
+        refused : (l : Leaf) → Why l → TellsRead P (refusalOf l)
+        refused (Fine e q) k = room
+        refused (Bad w j) k = k
+
+        scanned-why : (f : Found) → Why (scannedFound f lead g input)
+        scanned-why (Is s) =
+            walk-why (λ x. Unit {0}) P (reader lead g input) (λ x bs u. scan-why lead g x bs) (plan s)
+            (each-any (λ x. Unit {0}) (λ x. tt) (plan s)) input 0 1
+        scanned-why Not = h .code

@@ -14,10 +14,7 @@ use Rattle.fields.specs.declared.Answer.{Answer}
 use Rattle.fields.specs.declared.Found.{Found}
 use Rattle.fields.specs.declared.Read.{Read}
 use Rattle.fields.specs.declared.Read.the-variants as read
-use Rattle.fields.specs.declared.form.Form.{Form}
-use Rattle.fields.specs.declared.form.Form.the-variants as form
 use Rattle.fields.specs.Binary.{valtype}
-use Rattle.fields.specs.Form.{foundIn}
 use Rattle.fields.specs.Read.{LeftRow, readItem}
 use Rattle.fields.specs.Write.{numberOfRefusal, numberOf, valueOf, Left, writeShape}
 use Rattle.types.specs.Read.{readType}
@@ -107,10 +104,6 @@ pub record ChangesNothingElse : Type 0 where
   pub copy : (src : List ℕ) (at : ℕ) (out : List ℕ) → Stores at out (store src at out)
   pub put-unsigned : (n at : ℕ) (out : List ℕ) → Stores at out (store (unsigned n) at out)
   pub put-signed : (n at : ℕ) (out : List ℕ) → Stores at out (store (signed n) at out)
-  -- fields
-  pub read-item : (found : Found) (kind lead g : ℕ) (input row : List ℕ) → Reads row (readItem found kind lead g input row)
-  pub read-form : (f : Form) (kind lead g : ℕ) (input row : List ℕ) → Reads row (readItem (foundIn f) kind lead g input row)
-  pub read-import-form : (kind lead g : ℕ) (input row : List ℕ) → Reads row (readItem (foundIn form.Import) kind lead g input row)
   -- writing
   pub put-value : (tag x at : ℕ) (out : List ℕ) → Stores at out (store (valtype tag x) at out)
   pub put-name : (pool : List ℕ) (start size at : ℕ) (out : List ℕ) → Stores at out (store (unsigned size ++ partOf pool start size) at out)

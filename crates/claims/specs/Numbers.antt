@@ -9,11 +9,8 @@ use Rattle.numbers.specs.Leb.{unsigned, signed, takeUnsigned, takeSigned}
 use Rattle.numbers.specs.Numbers as numbers
 use Rattle.fields.specs.declared.Found.{Found}
 use Rattle.fields.specs.declared.Shape.{Shape}
-use Rattle.fields.specs.declared.form.Form.{Form}
-use Rattle.fields.specs.declared.form.Form.the-variants as form
 use Rattle.fields.specs.Binary.{valtype}
-use Rattle.fields.specs.Form.{foundIn}
-use Rattle.fields.specs.Read.{readItem}
+use Rattle.fields.specs.Read.{scannedItem, refusalOf}
 use Rattle.fields.specs.Row.{measuredRow}
 use Rattle.fields.specs.Write.{numberOf, measured, writeShape}
 use Rattle.types.specs.Read.{readType}
@@ -56,9 +53,7 @@ pub record RefusesBy : Type 0 where
   -- fields: by every shape, TOO_BIG included
   pub measure-shape : Exactly (Shape × List ℕ × ℕ × List ℕ) (λ x. numberOf (measured (x .0) (x .1) (x .2) (x .3))) (0 ∷ 1 ∷ 3 ∷ 4 ∷ 5 ∷ 6 ∷ 7 ∷ [])
   pub measure-row : Exactly (Found × List ℕ × List ℕ) (λ x. numberOf (measuredRow (x .0) (x .1) (x .2))) (0 ∷ 1 ∷ 2 ∷ 3 ∷ 4 ∷ 5 ∷ 6 ∷ 7 ∷ [])
-  pub read-item : Exactly (Found × ℕ × ℕ × ℕ × List ℕ × List ℕ) (λ x. numberOfRead (readItem (x .0) (x .1) (x .2) (x .3) (x .4) (x .5) .answer)) (0 ∷ 1 ∷ 6 ∷ 8 ∷ 11 ∷ 12 ∷ 13 ∷ 14 ∷ [])
-  pub read-form : Exactly (Form × ℕ × ℕ × ℕ × List ℕ × List ℕ) (λ x. numberOfRead (readItem (foundIn (x .0)) (x .1) (x .2) (x .3) (x .4) (x .5) .answer)) (0 ∷ 1 ∷ 6 ∷ 8 ∷ 11 ∷ 12 ∷ 13 ∷ 14 ∷ [])
-  pub read-import-form : Exactly (ℕ × ℕ × ℕ × List ℕ × List ℕ) (λ x. numberOfRead (readItem (foundIn form.Import) (x .0) (x .1) (x .2) (x .3) (x .4) .answer)) (0 ∷ 1 ∷ 6 ∷ 8 ∷ 11 ∷ 12 ∷ 13 ∷ 14 ∷ [])
+  pub item-refusal : Exactly (Found × ℕ × ℕ × List ℕ) (λ x. numberOfRead (refusalOf (scannedItem (x .0) (x .1) (x .2) (x .3)))) (1 ∷ 6 ∷ 8 ∷ 11 ∷ 12 ∷ 13 ∷ 14 ∷ [])
   -- writing
   pub put-value : Exactly (ℕ × ℕ × ℕ × List ℕ) (λ x. numbers.numberOf (store (valtype (x .0) (x .1)) (x .2) (x .3) .answer)) (0 ∷ 8 ∷ [])
   pub put-name : Exactly (List ℕ × ℕ × ℕ × ℕ × List ℕ) (λ x. numbers.numberOf (store (unsigned (x .2) ++ partOf (x .0) (x .1) (x .2)) (x .3) (x .4) .answer)) (0 ∷ 8 ∷ [])

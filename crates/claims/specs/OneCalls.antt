@@ -13,29 +13,31 @@ use Rattle.numbers.proofs.leb.put_unsigned as call-put-unsigned
 use Rattle.numbers.proofs.leb.put_signed as call-put-signed
 use Rattle.numbers.proofs.leb.take_unsigned as call-take-unsigned
 use Rattle.numbers.proofs.leb.take_signed as call-take-signed
+use Rattle.numbers.proofs.leb.seen_unsigned as call-seen-unsigned
+use Rattle.numbers.proofs.leb.seen_signed as call-seen-signed
+use Rattle.numbers.proofs.leb.short_signed as call-short-signed
 use Rattle.numbers.proofs.text.is_text as call-is-text
-use Rattle.fields.proofs.form.found_of as call-found-of
-use Rattle.fields.proofs.form.plain_wide as call-plain-wide
-use Rattle.fields.proofs.form.tail_wide as call-tail-wide
-use Rattle.fields.proofs.form.unit_wide as call-unit-wide
-use Rattle.fields.proofs.form.front_wide as call-front-wide
-use Rattle.fields.proofs.form.close_wide as call-close-wide
 use Rattle.fields.proofs.is_indexed as call-is-indexed
 use Rattle.fields.proofs.row.kind_of as call-kind-of
 use Rattle.fields.proofs.row.two_of as call-two-of
 use Rattle.fields.proofs.row.many_of as call-many-of
 use Rattle.fields.proofs.row.measure_row as call-measure-row
-use Rattle.fields.proofs.straight.read_form as call-read-form
-use Rattle.fields.proofs.straight.read_import as call-read-import-form
 use Rattle.fields.proofs.wall.number_of as call-number-of
 use Rattle.fields.proofs.write.measure_shape as call-measure-shape
 use Rattle.fields.proofs.first_of as call-first-of
-use Rattle.fields.proofs.read_item as call-read-item
+use Rattle.fields.proofs.item_refusal as call-item-refusal
 use Rattle.writing.proofs.fits as call-fits
 use Rattle.writing.proofs.value_size as call-value-size
 use Rattle.writing.proofs.name_size as call-name-size
 use Rattle.writing.proofs.put_value as call-put-value
 use Rattle.writing.proofs.put_name as call-put-name
+use Rattle.reading.proofs.primitive as call-read-primitive
+use Rattle.reading.proofs.value as call-read-value
+use Rattle.reading.proofs.optional as call-read-optional
+use Rattle.reading.proofs.result as call-read-result
+use Rattle.reading.proofs.name as call-read-name
+use Rattle.reading.proofs.is_within as call-is-within
+use Rattle.reading.proofs.has_room as call-has-room
 use Rattle.types.proofs.measure as call-measure-type
 use Rattle.types.proofs.write as call-write-type
 use Rattle.types.proofs.read as call-read-type
@@ -87,31 +89,34 @@ pub record NoSecondOutcome : Type 2 where
   pub put-signed : OneOutcome call-put-signed.ended (λ M. call-put-signed.clauses)
   pub take-unsigned : OneOutcome call-take-unsigned.ended (λ M. call-take-unsigned.clauses)
   pub take-signed : OneOutcome call-take-signed.ended (λ M. call-take-signed.clauses)
+  pub seen-unsigned : OneOutcome call-seen-unsigned.ended (λ M. call-seen-unsigned.clauses)
+  pub seen-signed : OneOutcome call-seen-signed.ended (λ M. call-seen-signed.clauses)
+  pub short-signed : OneOutcome call-short-signed.ended (λ M. call-short-signed.clauses)
   pub is-text : OneOutcome call-is-text.ended (λ M. call-is-text.clauses)
   -- fields
-  pub found-of : OneOutcome call-found-of.ended (λ M. call-found-of.clauses)
-  pub plain-wide : OneOutcome call-plain-wide.ended (λ M. call-plain-wide.clauses)
-  pub tail-wide : OneOutcome call-tail-wide.ended (λ M. call-tail-wide.clauses)
-  pub unit-wide : OneOutcome call-unit-wide.ended (λ M. call-unit-wide.clauses)
-  pub front-wide : OneOutcome call-front-wide.ended (λ M. call-front-wide.clauses)
-  pub close-wide : OneOutcome call-close-wide.ended (λ M. call-close-wide.clauses)
   pub is-indexed : OneOutcome call-is-indexed.ended (λ M. call-is-indexed.clauses)
   pub kind-of : OneOutcome call-kind-of.ended (λ M. call-kind-of.clauses)
   pub two-of : OneOutcome call-two-of.ended (λ M. call-two-of.clauses)
   pub many-of : OneOutcome call-many-of.ended (λ M. call-many-of.clauses)
   pub measure-row : OneOutcome call-measure-row.ended (λ M. call-measure-row.clauses)
-  pub read-form : OneOutcome call-read-form.ended (λ M. call-read-form.clauses)
-  pub read-import-form : OneOutcome call-read-import-form.ended (λ M. call-read-import-form.clauses)
   pub number-of : OneOutcome call-number-of.ended (λ M. call-number-of.clauses)
   pub measure-shape : OneOutcome call-measure-shape.ended (λ M. call-measure-shape.clauses)
   pub first-of : OneOutcome call-first-of.ended (λ M. call-first-of.clauses)
-  pub read-item : OneOutcome call-read-item.ended (λ M. call-read-item.clauses)
+  pub item-refusal : OneOutcome call-item-refusal.ended (λ M. call-item-refusal.clauses)
   -- writing
   pub fits : OneOutcome call-fits.ended (λ M. call-fits.clauses)
   pub value-size : OneOutcome call-value-size.ended (λ M. call-value-size.clauses)
   pub name-size : OneOutcome call-name-size.ended (λ M. call-name-size.clauses)
   pub put-value : OneOutcome call-put-value.ended (λ M. call-put-value.clauses)
   pub put-name : OneOutcome call-put-name.ended (λ M. call-put-name.clauses)
+  -- reading
+  pub read-primitive : OneOutcome call-read-primitive.ended (λ M. call-read-primitive.clauses)
+  pub read-value : OneOutcome call-read-value.ended (λ M. call-read-value.clauses)
+  pub read-optional : OneOutcome call-read-optional.ended (λ M. call-read-optional.clauses)
+  pub read-result : OneOutcome call-read-result.ended (λ M. call-read-result.clauses)
+  pub read-name : OneOutcome call-read-name.ended (λ M. call-read-name.clauses)
+  pub is-within : OneOutcome call-is-within.ended (λ M. call-is-within.clauses)
+  pub has-room : OneOutcome call-has-room.ended (λ M. call-has-room.clauses)
   -- types
   pub measure-type : OneOutcome call-measure-type.ended (λ M. call-measure-type.clauses)
   pub write-type : OneOutcome call-write-type.ended (λ M. call-write-type.clauses)

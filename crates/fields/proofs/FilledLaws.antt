@@ -1,5 +1,5 @@
--- The reader's second pass in steps: how many words a field fills, one field, the count with its groups, and the fields of a shape, filled
--- where there is room for all of them.
+-- The words of an item: how many a field fills, that a walk counts them and ends inside the input, and the words of a shape in the stages
+-- that code has.
 use Prim.Native.Nat.{ℕ, _+_, _≤_}
 use native.Mathlib.Omega.{arith}
 use mathlib.Core.Path.{_≡_, refl, sym, ap, _∙_, subst}
@@ -7,28 +7,25 @@ use mathlib.Core.Bool.{Bool, true, false}
 use mathlib.Core.List.{List, [], _∷_, _++_, append-nil}
 use lib.Dec.{eqb, ltb}
 use lib.ListN.{length, drop, length-append}
-use lib.Seq.{sets, drop-drop}
+use lib.Seq.{drop-drop}
 use Rattle.numbers.specs.Leb.{takeSigned}
 use Rattle.fields.specs.declared.Field.{Field}
 use Rattle.fields.specs.declared.Field.the-variants as field
-use Rattle.fields.specs.declared.Refusal.{Refusal}
 use Rattle.fields.specs.declared.Leaf.{Leaf}
 use Rattle.fields.specs.declared.Leaf.the-variants.{Fine, Bad}
 use Rattle.fields.specs.declared.Shape.{Shape}
 use Rattle.fields.specs.Binary.{pick}
 use Rattle.fields.specs.Fill.{valueIn, index, primitive, fillValue, fillOptional, fillName, fillSlot, fillSlots, fillExtern, fillReference, fill}
 use Rattle.fields.specs.Judge.{wide}
-use Rattle.fields.specs.Read.{reader, scanned, countedScan, countedFill}
-use Rattle.fields.specs.Run.{along, makes, after, Room, Under}
+use Rattle.fields.specs.Read.{reader, countedScan, countedFill}
+use Rattle.fields.specs.Run.{along, makes, after, Under}
 use Rattle.fields.specs.Scan.{byte, headScan, firstScan, secondScan, scan}
 use Rattle.fields.specs.Shape.{opening, group, closing, repeated, seq, counts, plan, widths}
 use Rattle.fields.specs.View.{view}
 use Rattle.fields.specs.Walk.{end, next, took, outs}
-use Rattle.fields.proofs.LoopLaws.{one-bad}
 use Rattle.fields.proofs.RunLaws.{along-append, makes-append, outs-last, outs-seq}
 use Rattle.fields.proofs.ScanLaws.{Within, scan-within}
-use Rattle.fields.proofs.ScannedLaws.{scans, scans-under, scanned-staged}
-use Rattle.fields.proofs.StoreLaws.{Pass, stored-as, room-past, front-room, both-end, rest-room, joined}
+use Rattle.fields.proofs.ScannedLaws.{scans, scans-under}
 
 -- ---- how many words a field fills
 
@@ -123,45 +120,29 @@ module _ (lead g : ℕ) (input : List ℕ) where
           (omega (arith, w .1, fill-length g f at (drop at input), length-append (fill g f at (drop at input)) (fills fs (at + t))))
       go (Bad w j) b e ih = let z : _≡_ {A = ℕ} 0 1 = cc in absurd (omega arith)
 
-  -- the second pass
-  abbrev pub filler : Pass
-  filler = record { look = scan lead g; make = fill g; xs = input; counts = fills-count }
-
   -- a walk ends inside the input
   pub scans-inside : (fs : List Field) (at to a m : ℕ) → at ≤ length input → scans lead g input fs at to ≡ Fine a m → a ≤ length input
   scans-inside fs at to a m h e =
       let u = subst (λ l. Under l (length input) (to + widths fs)) e (scans-under lead g input fs at to (length input) h (omega arith)) in
       u .0
 
-  -- ---- one field
-
-  module _ (f : Field) (at to n : ℕ) (room : Room (scans lead g input (f ∷ []) at to) n) where
-    pub one-room : to + wide f ≤ n
-    unfolding along
-    one-room = go (scan lead g f (drop at input)) (scan-within lead g f (drop at input)) room
-      where
-        go : (l : Leaf) → Within l (length (drop at input)) (wide f) → Room (next l (λ t m. Fine (at + t) (to + m)) at) n → to + wide f ≤ n
-        go (Fine t m) w h = omega arith
-        go (Bad w j) b h = absurd h
-
-    pub one-right : (bs : List ℕ) → bs ≡ drop at input → (l : Leaf) → l ≡ scan lead g f bs → (w : Refusal) (j : ℕ) → l ≡ Bad w j → ⊥
-    one-right bs here l el w j e = subst (λ l. Room l n) (sym (one-bad (scan lead g) input f at to bs here l el w j e)) room
-
+  -- one field
   pub one-fills : (f : Field) (at : ℕ) (bs : List ℕ) → bs ≡ drop at input → fill g f at bs ≡ fills (f ∷ []) at
   unfolding makes
   one-fills f at bs here = ap (λ l. fill g f at l) here ∙ sym (append-nil (fill g f at (drop at input)))
 
-  -- ---- the count, as many groups, and the closing
+  -- ---- the words of a shape
 
   module _ (s : Shape) where
-    -- these fields, with the count at `at`; and what follows the opening
-    abbrev countedFields : ℕ → List Field
+    -- the count at `at`, as many groups, and the closing; and what follows the opening
+    abbrev pub countedFields : ℕ → List Field
     countedFields at = field.Index ∷ (repeated (index (drop at input)) (group s) ++ closing s)
 
-    abbrev later : ℕ → List Field
+    abbrev pub later : ℕ → List Field
     later at = pick (s .counted) (countedFields at) (closing s)
 
-    counted-along : (at made : ℕ) → countedScan lead g s input at made ≡ scans lead g input (countedFields at) at made
+    -- the count and what it counts are one walk
+    pub counted-along : (at made : ℕ) → countedScan lead g s input at made ≡ scans lead g input (countedFields at) at made
     unfolding countedScan
     counted-along at made =
         let n = index (drop at input) in
@@ -169,60 +150,17 @@ module _ (lead g : ℕ) (input : List ℕ) where
         (λ i a m. sym (along-append (scan lead g) (repeated n (group s)) (closing s) input a m) i)
         ∙ sym (along-append (scan lead g) (field.Index ∷ []) (repeated n (group s) ++ closing s) input at made)
 
-    module _ (at to : ℕ) (row : List ℕ) (room : Room (countedScan lead g s input at to) (length row)) (n : ℕ) (en : n ≡ index (drop at input)) where
-      abbrev first : List Field
-      first = field.Index ∷ []
-
-      abbrev groups : List Field
-      groups = repeated n (group s)
-
-      all-room : Room (scans lead g input (first ++ (groups ++ closing s)) at to) (length row)
-      all-room = rw en (subst (λ l. Room l (length row)) (counted-along at to) room)
-
-      pub count-room : Room (scans lead g input first at to) (length row)
-      count-room = front-room filler first (groups ++ closing s) at to row all-room
-
-      module _ (a₁ m₁ : ℕ) (e₁ : scans lead g input first at to ≡ Fine a₁ m₁) {row₁ : List ℕ} (w₁ : row₁ ≡ sets row to (fills first at)) where
-        both-room : Room (scans lead g input (groups ++ closing s) a₁ m₁) (length row₁)
-        both-room = rest-room filler first (groups ++ closing s) at to row all-room a₁ m₁ e₁ w₁
-
-        pub groups-room : Room (scans lead g input groups a₁ m₁) (length row₁)
-        groups-room = front-room filler groups (closing s) a₁ m₁ row₁ both-room
-
-        module _ (a₂ m₂ : ℕ) (e₂ : scans lead g input groups a₁ m₁ ≡ Fine a₂ m₂) {row₂ : List ℕ} (w₂ : row₂ ≡ sets row₁ m₁ (fills groups a₁)) where
-          pub closing-room : Room (scans lead g input (closing s) a₂ m₂) (length row₂)
-          closing-room = rest-room filler groups (closing s) a₁ m₁ row₁ both-room a₂ m₂ e₂ w₂
-
-          pub counted-filled : {row₃ : List ℕ} → row₃ ≡ sets row₂ m₂ (fills (closing s) a₂) → row₃ ≡ sets row to (countedFill lead g s input at)
-          unfolding countedFill
-          counted-filled w =
-              rw (← en)
-              (joined filler first (groups ++ closing s) at to row all-room a₁ m₁ e₁ w₁
-              (joined filler groups (closing s) a₁ m₁ row₁ both-room a₂ m₂ e₂ w₂ w))
-
-    -- ---- the fields of a shape
-
-    later-along : (at made : ℕ)
-        → pick (s .counted) (countedScan lead g s input at made) (scans lead g input (closing s) at made) ≡ scans lead g input (later at) at made
-    unfolding countedScan
-    later-along at made = go (s .counted)
-      where
-        go : (b : Bool) → pick b (countedScan lead g s input at made) (scans lead g input (closing s) at made)
-            ≡ scans lead g input (pick b (countedFields at) (closing s)) at made
-        go true = counted-along at made
-        go false = refl
-
-    -- their words, where the opening ends at a
-    pub fields-filled : (a m : ℕ) → scans lead g input (opening s) 0 1 ≡ Fine a m
-        → fills (opening s ++ later a) 0 ≡ outs (reader lead g input) (plan s) 0 input
-    unfolding outs makes view fill
-    fields-filled a m e =
-        makes-append (scan lead g) (fill g) (opening s) (later a) input 0 1 a m e
-        ∙ ap (λ l. fills (opening s) 0 ++ l) (sym (rest (s .counted)))
-        ∙ sym (outs-seq (reader lead g input) input (opening s) (pick (s .counted) (counts s) (seq (closing s) end)) 0 1 a m e)
+    -- in stages, where the opening ends at a
+    pub filled-staged : (a m : ℕ) → scans lead g input (opening s) 0 1 ≡ Fine a m
+        → outs (reader lead g input) (plan s) 0 input
+        ≡ fills (opening s) 0 ++ pick (s .counted) (countedFill lead g s input a) (fills (closing s) a)
+    unfolding outs makes view fill countedFill
+    filled-staged a m e =
+        outs-seq (reader lead g input) input (opening s) (pick (s .counted) (counts s) (seq (closing s) end)) 0 1 a m e
+        ∙ ap (λ l. fills (opening s) 0 ++ l) (rest (s .counted))
       where
         rest : (b : Bool) → outs (reader lead g input) (pick b (counts s) (seq (closing s) end)) a (drop a input)
-            ≡ fills (pick b (countedFields a) (closing s)) a
+            ≡ pick b (countedFill lead g s input a) (fills (closing s) a)
         rest true =
             ap (λ l. (index (drop a input) ∷ []) ++ l)
             (outs-last (reader lead g input) (repeated (index (drop a input)) (group s) ++ closing s)
@@ -230,74 +168,24 @@ module _ (lead g : ℕ) (input : List ℕ) where
             (drop (took (scan lead g field.Index (drop a input))) (drop a input)))
         rest false = outs-last (reader lead g input) (closing s) a (drop a input)
 
-    -- what follows the opening has room where the whole has it
-    pub opening-room : (n : ℕ) → Room (scanned lead g s input) n → Room (scans lead g input (opening s) 0 1) n
-    opening-room n h = go (scans lead g input (opening s) 0 1) (subst (λ l. Room l n) (scanned-staged lead g input s) h)
+    -- the same with and without a count
+    pub filled-counted : (a m : ℕ) → scans lead g input (opening s) 0 1 ≡ Fine a m → s .counted ≡ true
+        → outs (reader lead g input) (plan s) 0 input ≡ fills (opening s) 0 ++ countedFill lead g s input a
+    filled-counted a m e c = filled-staged a m e ∙ rw c
+
+    pub filled-plain : (a m : ℕ) → scans lead g input (opening s) 0 1 ≡ Fine a m → s .counted ≡ false
+        → outs (reader lead g input) (plan s) 0 input ≡ fills (opening s) 0 ++ fills (closing s) a
+    filled-plain a m e c = filled-staged a m e ∙ rw c
+
+    -- and as one run of fields
+    pub fields-filled : (a m : ℕ) → scans lead g input (opening s) 0 1 ≡ Fine a m
+        → fills (opening s ++ later a) 0 ≡ outs (reader lead g input) (plan s) 0 input
+    unfolding countedFill
+    fields-filled a m e =
+        makes-append (scan lead g) (fill g) (opening s) (later a) input 0 1 a m e
+        ∙ ap (λ l. fills (opening s) 0 ++ l) (rest (s .counted))
+        ∙ sym (filled-staged a m e)
       where
-        go : (l : Leaf)
-            → Room (after l (λ at made. pick (s .counted) (countedScan lead g s input at made) (scans lead g input (closing s) at made))) n → Room l n
-        go (Fine a m) h =
-            room-past filler (later a) a m n (subst (λ l. Room l n) (later-along a m) h)
-        go (Bad w j) h = h
-
-    pub scanned-some : (e q : ℕ) → scanned lead g s input ≡ Fine e q → 1 ≤ q
-    scanned-some e q h =
-        room-past filler (opening s) 0 1 q (opening-room q (subst (λ l. Room l q) (sym h) (omega arith)))
-
-    -- the lead and zero, then the first and second, and then the rest
-    module _ (row : List ℕ) (room : Room (scanned lead g s input) (length row)) where
-      abbrev leads : List Field
-      leads = s .lead ∷ s .zero ∷ []
-
-      abbrev firsts : List Field
-      firsts = s .first ∷ s .second ∷ []
-
-      open-room : Room (scans lead g input (leads ++ firsts) 0 1) (length row)
-      open-room = opening-room (length row) room
-
-      pub leads-room : Room (scans lead g input leads 0 1) (length row)
-      leads-room = front-room filler leads firsts 0 1 row open-room
-
-      module _ (a₁ m₁ : ℕ) (e₁ : scans lead g input leads 0 1 ≡ Fine a₁ m₁) {row₁ : List ℕ} (w₁ : row₁ ≡ sets row 1 (fills leads 0)) where
-        pub firsts-room : Room (scans lead g input firsts a₁ m₁) (length row₁)
-        firsts-room = rest-room filler leads firsts 0 1 row open-room a₁ m₁ e₁ w₁
-
-        module _ (a m : ℕ) (e₂ : scans lead g input firsts a₁ m₁ ≡ Fine a m) {row₂ : List ℕ} (w₂ : row₂ ≡ sets row₁ m₁ (fills firsts a₁)) where
-          opened : scans lead g input (opening s) 0 1 ≡ Fine a m
-          opened = both-end filler leads firsts 0 1 row open-room a₁ m₁ e₁ ∙ e₂
-
-          stored : row₂ ≡ sets row 1 (fills (opening s) 0)
-          stored = joined filler leads firsts 0 1 row open-room a₁ m₁ e₁ w₁ w₂
-
-          all-fields : Room (scans lead g input (opening s ++ later a) 0 1) (length row)
-          all-fields =
-              subst (λ l. Room l (length row))
-              (scanned-staged lead g input s
-              ∙ ap (λ l. after l (λ at made. pick (s .counted) (countedScan lead g s input at made) (scans lead g input (closing s) at made))) opened
-              ∙ later-along a m
-              ∙ sym (along-append (scan lead g) (opening s) (later a) input 0 1 ∙ ap (λ l. after l (scans lead g input (later a))) opened))
-              room
-
-          later-room : Room (scans lead g input (later a) a m) (length row₂)
-          later-room = rest-room filler (opening s) (later a) 0 1 row all-fields a m opened stored
-
-          pub counted-room : s .counted ≡ true → Room (countedScan lead g s input a m) (length row₂)
-          counted-room c = subst (λ l. Room l (length row₂)) (sym (counted-along a m)) (rw c at later-room)
-
-          pub plain-room : s .counted ≡ false → Room (scans lead g input (closing s) a m) (length row₂)
-          plain-room c = rw c at later-room
-
-          module _ {last : List ℕ} where
-            whole-filled : last ≡ sets row₂ m (fills (later a) a) → last ≡ sets row 1 (outs (reader lead g input) (plan s) 0 input)
-            whole-filled w =
-                stored-as row 1 (joined filler (opening s) (later a) 0 1 row all-fields a m opened stored w)
-                (fields-filled a m opened)
-
-            pub counted-whole : s .counted ≡ true → last ≡ sets row₂ m (countedFill lead g s input a)
-                → last ≡ sets row 1 (outs (reader lead g input) (plan s) 0 input)
-            unfolding countedFill
-            counted-whole c w = whole-filled (rw c w)
-
-            pub plain-whole : s .counted ≡ false → last ≡ sets row₂ m (fills (closing s) a)
-                → last ≡ sets row 1 (outs (reader lead g input) (plan s) 0 input)
-            plain-whole c w = whole-filled (rw c w)
+        rest : (b : Bool) → fills (pick b (countedFields a) (closing s)) a ≡ pick b (countedFill lead g s input a) (fills (closing s) a)
+        rest true = refl
+        rest false = refl

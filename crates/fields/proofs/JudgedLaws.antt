@@ -1,4 +1,4 @@
--- The first pass in steps: one field, fields after others, a loop over groups, the count, and the bounds that keep every sum small.
+-- Judging in steps: one field, fields after others, a loop over groups, the count, and the bounds that keep every sum small.
 use Prim.Native.Nat.{ℕ, _+_, _*_, _^_, _≤_, _<_}
 use native.Mathlib.Nat.{add-zero, add-mul}
 use native.Mathlib.Omega.{arith}

@@ -1,4 +1,4 @@
--- The reader's first pass in steps: where its walks stay, the count, and the plan of a shape in the stages that code has.
+-- Scanning in steps: where its walks stay, the count, the plan of a shape in the stages that code has, and an item that passes no limit.
 use Prim.Native.Nat.{ℕ, _+_, _*_, _^_, _≤_}
 use native.Mathlib.Nat.{add-zero}
 use native.Mathlib.Omega.{arith}
@@ -7,6 +7,7 @@ use mathlib.Core.Bool.{Bool, true, false}
 use mathlib.Core.List.{List, [], _∷_, _++_}
 use lib.ListN.{length, drop, length-drop}
 use lib.Seq.{drop-drop}
+use borrow.Author.Tests.{le-ltb, ne-eqb}
 use Rattle.numbers.specs.Integers.{u32}
 use Rattle.numbers.specs.Leb.{takeUnsigned}
 use Rattle.numbers.specs.declared.leb.Taken.{Taken}
@@ -18,11 +19,12 @@ use Rattle.fields.specs.declared.Refusal.{Refusal}
 use Rattle.fields.specs.declared.Refusal.the-variants.{Cut, Number}
 use Rattle.fields.specs.declared.Leaf.{Leaf}
 use Rattle.fields.specs.declared.Leaf.the-variants.{Fine, Bad}
+use Rattle.fields.specs.declared.Found.{Found}
 use Rattle.fields.specs.declared.Shape.{Shape}
 use Rattle.fields.specs.Binary.{pick}
 use Rattle.fields.specs.Fill.{index, fill}
 use Rattle.fields.specs.Judge.{wide}
-use Rattle.fields.specs.Read.{reader, scanned, countedScan}
+use Rattle.fields.specs.Read.{reader, scanned, countedScan, scannedFound, scannedItem}
 use Rattle.fields.specs.Run.{along, after, Under}
 use Rattle.fields.specs.Scan.{scanIndex, scan}
 use Rattle.fields.specs.Shape.{opening, group, closing, repeated, seq, counts, widths}
@@ -178,3 +180,11 @@ module _ (lead g : ℕ) (input : List ℕ) where
 
     pub scanned-plain : s .counted ≡ false → (r : Leaf) → r ≡ after l (scans (closing s)) → r ≡ scanned lead g s input
     scanned-plain c r er = rw (scanned-after, c) er
+
+-- ---- an item that passes no limit is what its shape says
+
+pub scanned-item : (found : Found) (lead g : ℕ) (input : List ℕ) → length input ≤ 2 ^ 30 → 1 ≤ g → g ≤ 3 → (length input ≡ 0 → ⊥)
+    → scannedItem found lead g input ≡ scannedFound found lead g input
+unfolding scannedItem
+scanned-item found lead g input small low high some =
+    simp (le-ltb _ _ small, le-ltb _ _ low, le-ltb _ _ high, ne-eqb (length input) 0 some)

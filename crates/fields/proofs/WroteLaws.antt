@@ -5,7 +5,7 @@ use mathlib.Core.Path.{_≡_, refl, ap, _∙_}
 use mathlib.Core.List.{List, [], _∷_, _++_}
 use lib.ListN.{length, length-append}
 use lib.Seq.{length-sets}
-use Rattle.numbers.proofs.BytesLaws.{sets-append, store-fits}
+use Rattle.numbers.proofs.BytesLaws.{sets-append, store-fits, size-value}
 use Rattle.numbers.specs.Bytes.{Left, left, store}
 use Rattle.numbers.specs.Numbers.{valueOf}
 use Rattle.numbers.specs.declared.bytes.Stored.{Stored}
@@ -42,11 +42,10 @@ room-then {l} {m} {i} {j} {a} w b h = omega (arith, w .place, same-size w, lengt
 pub of-store :
     {l m : List ℕ} {i : ℕ} {a : List ℕ} {r : Stored} {s : ℕ} → left r m ≡ store a i l → s ≡ valueOf r
     → i + length a ≤ length l → Wrote l i a (i + s) m
-unfolding valueOf
 of-store {l} {m} {i} {a} {r} {s} e v h =
     let f = e ∙ store-fits a i l h in
     record {
-      place = ap (λ (n : ℕ). i + n) (v ∙ ap (λ (x : Left). valueOf (x .answer)) f);
+      place = ap (λ (n : ℕ). i + n) (v ∙ ap (λ (x : Left). valueOf (x .answer)) f ∙ size-value (length a));
       content = ap (λ (x : Left). x .buffer) f;
     }
 

@@ -11,17 +11,8 @@ use Rattle.fields.specs.declared.Field.{Field}
 use Rattle.fields.specs.declared.Field.the-variants as field
 use Rattle.fields.specs.declared.Leaf.{Leaf}
 use Rattle.fields.specs.declared.Leaf.the-variants.{Fine, Bad}
-use Rattle.fields.specs.declared.fill.Two.{Two}
-use Rattle.fields.specs.declared.fill.Three.{Three}
 use Rattle.fields.specs.Binary.{pick, indexed}
 use Rattle.fields.specs.Scan.{byte, headScan, firstScan, secondScan}
-
--- two words, and three
-abbrev pub twoWords : Two → List ℕ
-twoWords w = w .a ∷ w .b ∷ []
-
-abbrev pub threeWords : Three → List ℕ
-threeWords w = w .a ∷ w .b ∷ w .c ∷ []
 
 -- the number and the bytes of what was taken
 abbrev pub valueIn : Taken → ℕ

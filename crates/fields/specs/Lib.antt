@@ -1,9 +1,7 @@
 pub mod Binary
 pub mod Fill
-pub mod Form
 pub mod Judge
 pub mod Mark
-pub mod Quick
 pub mod Read
 pub mod Row
 pub mod Run
@@ -11,7 +9,6 @@ pub mod Scan
 pub mod Shape
 pub mod Size
 pub mod Table
-pub mod Took
 pub mod View
 pub mod Walk
 pub mod Write

@@ -81,6 +81,22 @@ unfoldable pub readItem : Found → ℕ → ℕ → ℕ → List ℕ → List �
 readItem found kind lead g input row =
     limited g input row (pick (eqb (length input) 0) (leftRow (Refused refusal.Cut 0) row) (readFound found kind lead g input row))
 
+-- what is wrong with an item: LIMIT, then an empty input, then what its shape says; nothing where it is whole
+abbrev pub scannedFound : Found → ℕ → ℕ → List ℕ → Leaf
+scannedFound (Is s) lead g input = scanned lead g s input
+scannedFound Not lead g input = Bad refusal.Code 0
+
+unfoldable pub scannedItem : Found → ℕ → ℕ → List ℕ → Leaf
+scannedItem found lead g input =
+    pick (ltb (2 ^ 30) (length input)) (Bad refusal.Limit 0)
+    (pick (ltb g 1) (Bad refusal.Limit 0)
+    (pick (ltb 3 g) (Bad refusal.Limit 0) (pick (eqb (length input) 0) (Bad refusal.Cut 0) (scannedFound found lead g input))))
+
+-- the refusal of an item that is not read: what is wrong with it, or ROOM where it is whole
+abbrev pub refusalOf : Leaf → Read
+refusalOf (Fine e q) = Refused refusal.Room q
+refusalOf (Bad w j) = Refused w j
+
 -- a field ends within n bytes, or its fault stands there
 abbrev pub Inside : Leaf → ℕ → Type 0
 Inside (Fine t m) n = t ≤ n

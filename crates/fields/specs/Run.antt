@@ -24,11 +24,6 @@ abbrev pub after : Leaf → (ℕ → ℕ → Leaf) → Leaf
 after (Fine at made) k = k at made
 after (Bad w j) k = Bad w j
 
--- the walk reaches its end, and what it makes ends within n
-abbrev pub Room : Leaf → ℕ → Type 0
-Room (Fine at made) n = made ≤ n
-Room (Bad w j) n = ⊥
-
 -- a walk that ends, ends at a or before, with b elements made at most
 abbrev pub Under : Leaf → ℕ → ℕ → Type 0
 Under (Fine at made) a b = (at ≤ a) × (made ≤ b)

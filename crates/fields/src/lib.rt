@@ -1,34 +1,20 @@
-// Fields of a row: each judged, scanned and filled, and the walk over the fields of a shape that serves every kind.
-mod fill;
-pub mod form;
-mod import_read;
+// Fields of a row: each judged and scanned, and the walk over the fields of a shape that serves every kind.
 mod item;
-mod item_fill;
-mod item_took;
 mod judge;
 pub mod row;
 mod scan;
 mod size;
-pub mod straight;
 mod walk;
 pub mod wall;
 pub mod write;
 
-pub use form::Close;
-pub use form::Form;
-pub use form::Front;
-pub use form::Plain;
-pub use form::Tail;
-pub use form::Unit;
 pub use item::first_of;
-pub use item::read_item;
+pub use item::item_refusal;
 pub use judge::is_indexed;
 pub use row::kind_of;
 pub use row::many_of;
 pub use row::measure_row;
 pub use row::two_of;
-pub use straight::read_form;
-pub use straight::read_import;
 pub use wall::number_of;
 pub use write::measure_shape;
 

@@ -1,4 +1,4 @@
-// Bytes to words, first pass: what stands at the front of the input, at a grade.
+// Bytes to words: what stands at the front of the input, at a grade.
 use crate::Field;
 use crate::Leaf;
 use crate::Refusal;
@@ -11,7 +11,7 @@ ghost use Rattle.fields.specs.Scan.{cut, there, asked, past, scanIndex, 
 ghost use Rattle.fields.specs.Read.{Inside};
 
 // The byte at i, 0 past the end.
-pub fn byte_at(bs: &[u8], i: usize) -> u8
+fn byte_at(bs: &[u8], i: usize) -> u8
     ensures { λ r. ⌜ r ≡ getD (now (bs .entry)) i 0 ⌝ }
 {
     if i < bs.len() {
@@ -290,7 +290,7 @@ fn and_count(so: Leaf, bs: &[u8]) -> Leaf
 }
 
 // Lead, name and count of an extern name.
-pub fn head_scan(grade: u32, bs: &[u8]) -> Leaf
+fn head_scan(grade: u32, bs: &[u8]) -> Leaf
     requires { ⌜ length (now bs) ≤ 2 ^ 30 ⌝ }
     ensures { λ r. ⌜ r ≡ headScan grade (now (bs .entry)) ⌝ }
 {
@@ -308,7 +308,7 @@ pub fn head_scan(grade: u32, bs: &[u8]) -> Leaf
 }
 
 // Option k, after what was found before it.
-pub fn and_slot(so: Leaf, k: u8, bs: &[u8]) -> Leaf
+fn and_slot(so: Leaf, k: u8, bs: &[u8]) -> Leaf
     requires { ⌜ (length (now bs) ≤ 2 ^ 30) × Inside so (2 ^ 30) ⌝ }
     ensures { λ r. ⌜ r ≡ onward so (slotScan k (now (bs .entry))) ⌝ }
 {

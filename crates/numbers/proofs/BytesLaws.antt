@@ -5,11 +5,14 @@ use native.Mathlib.Omega.{arith}
 use native.Mathlib.Nat.{add-zero, add-suc, suc-add, le-of-eq}
 use mathlib.Core.Logic.{_⊎_, inl, inr}
 use mathlib.Core.Path.{_≡_, refl, _∙_}
+use mathlib.Core.Bool.{Bool, true, false, cond}
 use mathlib.Core.List.{List, [], _∷_, _++_, append-assoc}
 use borrow.Author.Tests.{le-leb, lt-leb}
+use lib.Dec.{leb}
 use lib.ListN.{length, getD, take, drop, set, length-drop}
 use lib.Seq.{sets, sets-eq, take-all, take-append-seam, drop-at, length-take-le, getD-set-other}
-use Rattle.numbers.specs.Bytes.{left, store, partOf}
+use Rattle.numbers.specs.Bytes.{Left, left, store, partOf}
+use Rattle.numbers.specs.Numbers.{valueOf}
 use Rattle.numbers.specs.declared.bytes.Stored.the-variants.{Size, Room}
 
 -- ---- runs of stores
@@ -63,6 +66,26 @@ pub store-room :
     → store bytes at out ≡ left (Room (length bytes)) out
 unfolding store
 store-room bytes at out h = simp (lt-leb _ _ h)
+
+-- what holds where there is room and where there is none, holds
+pub store-either :
+    (P : Left → Type 0) (bytes : List ℕ) (at : ℕ) (out : List ℕ) → P (left (Size (length bytes)) (sets out at bytes))
+    → P (left (Room (length bytes)) out) → P (store bytes at out)
+unfolding store
+store-either P bytes at out h k = go (leb (at + length bytes) (length out))
+  where
+    go : (b : Bool) → P (cond b (left (Size (length bytes)) (sets out at bytes)) (left (Room (length bytes)) out))
+    go true = h
+    go false = k
+
+-- the value of an answer is its size, with room and without
+pub size-value : (n : ℕ) → valueOf (Size n) ≡ n
+unfolding valueOf
+size-value n = refl
+
+pub room-value : (n : ℕ) → valueOf (Room n) ≡ n
+unfolding valueOf
+room-value n = refl
 
 -- ---- parts
 

@@ -192,3 +192,15 @@ take-one s33 b s h = simp (lt-ltb b 128 (omega arith), lt-ltb b 64 h, lt-ltb b (
 -- what is put is bytes
 pub put-bytes : {end sign : ℕ} → Form end sign → (n : ℕ) → n < 2 ^ 32 → Bytes (bytesOf end 5 n)
 put-bytes {end} {sign} f n h = integer-bytes f (put-is f n h)
+
+-- of any number, in any number of bytes
+pub all-bytes : (end k n : ℕ) → end ≤ 128 → Bytes (bytesOf end k n)
+unfolding bytesOf
+all-bytes end zero n h i = omega arith
+all-bytes end (suc k) n h i = go (ltb n end) refl (all-bytes end k (n / 128) h) i
+  where
+    go : (b : Bool) → ltb n end ≡ b → Bytes (bytesOf end k (n / 128)) → (j : ℕ) → getD (cond b (n ∷ []) ((n % 128 + 128) ∷ bytesOf end k (n / 128))) j 0 < 2 ^ 8
+    go true e f zero = omega (arith, ltb-true n end e)
+    go true e f (suc j) = omega arith
+    go false e f zero = omega arith
+    go false e f (suc j) = f j

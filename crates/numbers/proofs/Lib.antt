@@ -3,6 +3,7 @@ pub mod CopyLaws
 pub mod IntegerLaws
 pub mod LebLaws
 mod Reading
+pub mod SeenLaws
 mod Shortest
 mod TextChunks
 pub mod TextLaws

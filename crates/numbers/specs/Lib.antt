@@ -3,4 +3,5 @@ pub mod Integers
 pub mod Leb
 pub mod Names
 pub mod Numbers
+pub mod Seen
 pub mod Text

@@ -15,6 +15,7 @@ use Rattle.numbers.specs.Leb.{unsigned}
 use Rattle.numbers.specs.Numbers.{valueOf}
 use Rattle.numbers.specs.declared.bytes.Stored.{Stored}
 use Rattle.numbers.specs.declared.bytes.Stored.the-variants as kept
+use Rattle.numbers.proofs.BytesLaws.{store-either, size-value, room-value}
 use Rattle.numbers.proofs.LebLaws.{size-bounds}
 use Rattle.fields.specs.declared.Answer.the-variants.{Size}
 use Rattle.fields.specs.declared.Refusal.the-variants as refusal
@@ -29,17 +30,11 @@ number-size n = size-bounds 128 n .1
 -- and so has what storing one came to, whether there was room or not
 pub stored-small : (n at : ℕ) (out : List ℕ) {after : List ℕ} {r : Stored} {s : ℕ} → bytes.left r after ≡ store (unsigned n) at out
     → s ≡ valueOf r → s ≤ 5
-unfolding store valueOf
 stored-small n at out e v =
     rw v
-    (subst (λ (x : Left). valueOf (x .answer) ≤ 5) (sym e) (either (leb (at + length (unsigned n)) (length out))))
-  where
-    either : (b : Bool)
-        → valueOf
-        (cond b (bytes.left (kept.Size (length (unsigned n))) (sets out at (unsigned n)))
-        (bytes.left (kept.Room (length (unsigned n))) out) .answer) ≤ 5
-    either true = number-size n
-    either false = number-size n
+    (subst (λ (x : Left). valueOf (x .answer) ≤ 5) (sym e)
+    (store-either (λ (x : Left). valueOf (x .answer) ≤ 5) (unsigned n) at out (rw (size-value (length (unsigned n))) (number-size n))
+    (rw (room-value (length (unsigned n))) (number-size n))))
 
 pub frame-size : (family size count : ℕ) (body : List ℕ)
     → length (framed family size count body) ≡ 1 + length (unsigned size) + (length (unsigned count) + length body)

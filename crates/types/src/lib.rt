@@ -1,61 +1,86 @@
 // Kinds 0 to 16: the defined, function and resource types of the component binary document.
 mod counted;
+mod first;
 mod function;
+mod groups;
+mod item;
 mod optional;
 mod small;
 pub mod steps;
 mod straight;
 
 use fields::Answer;
-use fields::Close;
-use fields::Form;
-use fields::Front;
-use fields::Plain;
+use fields::Field;
+use fields::Found;
 use fields::Read;
 use fields::Refusal;
-use fields::Tail;
-use fields::Unit;
+use reading::Tried;
 pub use steps::write_async;
 pub use steps::write_params;
 pub use steps::write_result;
 ghost use mathlib.Core.Path.{_≡_};
-ghost use Rattle.fields.specs.Form.{foundIn};
 ghost use Rattle.fields.specs.Read.{leftRow};
 ghost use Rattle.fields.specs.Write.{left};
 ghost use Rattle.types.specs.Read.{kindOf, leadGrade, readType};
+ghost use Rattle.types.specs.Table as Table;
 ghost use Rattle.types.specs.Write.{shapeOf, measuredType, writeType};
 
-// The form of a kind: a line of the table for each.
-fn form_of(kind: u32) -> Form
-    ensures { λ r. ⌜ foundIn r ≡ shapeOf kind ⌝ }
+// A lead and two fields.
+fn two(lead: u8, a: Field, b: Field) -> Found
+    ensures { λ r. ⌜ r ≡ Found.Is (Table.two lead a b) ⌝ }
+{
+    fields::two_of(Field::Fixed(lead), Field::Nothing, a, b)
+}
+
+// A lead, a count and as many groups of two fields.
+fn many(lead: u8, c: Field, d: Field) -> Found
+    ensures { λ r. ⌜ r ≡ Found.Is (Table.many lead c d) ⌝ }
+{
+    fields::many_of(
+        Field::Fixed(lead),
+        Field::Nothing,
+        Field::Nothing,
+        c,
+        d,
+        Field::Nothing,
+    )
+}
+
+// The shape of a kind: a line of the table for each.
+fn shape_of(kind: u32) -> Found
+    ensures { λ r. ⌜ r ≡ shapeOf kind ⌝ }
 {
     match kind {
-        0 => Form::Primitive,
-        1 => Form::List(Front::Byte(0x72), Unit::Named(Tail::Value), Close::Nothing),
-        2 => Form::List(Front::Byte(0x71), Unit::Named(Tail::Case), Close::Nothing),
-        3 => Form::Pair(0x70, Plain::Value, Plain::Nothing),
-        4 => Form::Pair(0x63, Plain::Value, Plain::Value),
-        5 => Form::Pair(0x67, Plain::Value, Plain::Index),
-        6 => Form::List(Front::Byte(0x6f), Unit::Values, Close::Nothing),
-        7 => Form::List(
-            Front::Byte(0x6e),
-            Unit::Named(Tail::Nothing),
-            Close::Nothing,
+        0 => fields::two_of(
+            Field::Nothing,
+            Field::Nothing,
+            Field::Primitive,
+            Field::Nothing,
         ),
-        8 => Form::List(
-            Front::Byte(0x6d),
-            Unit::Named(Tail::Nothing),
-            Close::Nothing,
+        1 => many(0x72, Field::Name, Field::Value),
+        2 => many(0x71, Field::Name, Field::OptionalThenZero),
+        3 => two(0x70, Field::Value, Field::Nothing),
+        4 => two(0x63, Field::Value, Field::Value),
+        5 => two(0x67, Field::Value, Field::Index),
+        6 => many(0x6f, Field::Value, Field::Nothing),
+        7 => many(0x6e, Field::Name, Field::Nothing),
+        8 => many(0x6d, Field::Name, Field::Nothing),
+        9 => two(0x6b, Field::Value, Field::Nothing),
+        10 => two(0x6a, Field::Optional, Field::Optional),
+        11 => two(0x69, Field::Index, Field::Nothing),
+        12 => two(0x68, Field::Index, Field::Nothing),
+        13 => two(0x65, Field::Optional, Field::Nothing),
+        14 => two(0x66, Field::Optional, Field::Nothing),
+        15 => fields::many_of(
+            Field::Nothing,
+            Field::Nothing,
+            Field::Async,
+            Field::Name,
+            Field::Value,
+            Field::Result,
         ),
-        9 => Form::Pair(0x6b, Plain::Value, Plain::Nothing),
-        10 => Form::Pair(0x6a, Plain::Optional, Plain::Optional),
-        11 => Form::Pair(0x69, Plain::Index, Plain::Nothing),
-        12 => Form::Pair(0x68, Plain::Index, Plain::Nothing),
-        13 => Form::Pair(0x65, Plain::Optional, Plain::Nothing),
-        14 => Form::Pair(0x66, Plain::Optional, Plain::Nothing),
-        15 => Form::List(Front::Async, Unit::Named(Tail::Value), Close::Result),
-        16 => Form::Pair(0x3f, Plain::Rep, Plain::OptionalIndex),
-        _ => Form::Not,
+        16 => two(0x3f, Field::Rep, Field::OptionalIndex),
+        _ => Found::Not,
     }
 }
 
@@ -67,8 +92,7 @@ pub fn measure(row: &[u32], pool: &[u8]) -> Answer
     if 0 < size {
         return Answer::Size(size);
     }
-    let form = form_of(fields::kind_of(row));
-    fields::measure_row(fields::form::found_of(form), row, pool)
+    fields::measure_row(shape_of(fields::kind_of(row)), row, pool)
 }
 
 // A type row judged beside its pool, and written into out from `at` on.
@@ -141,8 +165,16 @@ fn lead_grade(kind: u32) -> u32
 pub fn read(input: &[u8], grade: u32, row: &mut [u32]) -> Read
     ensures { λ r. ⌜ leftRow r (now (row .exit)) ≡ readType grade (now (input .entry)) (now (row .entry)) ⌝ }
 {
-    let kind = kind_of(fields::first_of(input));
-    let form = form_of(kind);
+    let byte = fields::first_of(input);
+    let kind = kind_of(byte);
     let lead = lead_grade(kind);
-    fields::read_form(form, kind, lead, grade, input, row)
+    if reading::is_within(lead, grade, input) {
+        match first::by_first(byte, grade, &input[0..], row) {
+            Tried::Item(words, took) => {
+                return Read::Item(words, took);
+            }
+            Tried::Not => {}
+        }
+    }
+    fields::item_refusal(shape_of(kind), lead, grade, input)
 }

@@ -1,0 +1,29 @@
+-- `reading::primitive_of` meets its contract: the first test is that of `primitive`, and nothing is left of 7f behind a byte that is
+-- not below it.
+use native.Mathlib.Omega.{arith}
+use borrow.Author.Needs.{needs}
+use borrow.Author.Tests.{eq-eqb, ne-eqb}
+use Rattle.fields.specs.Fill.{primitive}
+use Rattle.reading.proofs.primitive_of.Statement.{statement}
+use Rattle.reading.proofs.primitive_of.Tie as tie
+
+returns : tie.Need-returns
+unfolding primitive
+returns c = simp (eq-eqb _ _ (c .if1 .taken))
+
+sub-result : tie.Need-sub-result
+sub-result c = search needs
+
+cast-result : tie.Need-cast-result
+cast-result c = search needs
+
+returns-2 : tie.Need-returns-2
+unfolding primitive
+returns-2 c = simp (ne-eqb _ _ (c .before .if1 .left))
+
+returns-3 : tie.Need-returns-3
+unfolding primitive
+returns-3 c = rw (ne-eqb _ _ (c .before .if1 .left)) (omega (arith, c .if2 .left))
+
+pub primitive-of-spec : {M : Type 1} → statement M
+primitive-of-spec = tie.close (tie.spec returns sub-result cast-result returns-2 returns-3)

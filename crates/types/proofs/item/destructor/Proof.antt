@@ -1,0 +1,77 @@
+-- `destructor` meets its contract: the ways out are those of a destructor's first byte (`StoreLaws`), and the index behind it has few
+-- bytes (`seen-few`). Assumes nothing.
+use Prim.Native.Nat.{ℕ}
+use native.Mathlib.Omega.{arith}
+use mathlib.Core.Path.{ap, _∙_}
+use mathlib.Core.List.{List}
+use denote.Ref.{now}
+use Rattle.numbers.specs.Leb.{takeUnsigned}
+use Rattle.numbers.specs.Seen.{seen}
+use Rattle.numbers.proofs.BytesLaws.{to-end}
+use Rattle.types.proofs.StoreLaws.{dtor-none, dtor-some, dtor-wrong, dtor-other, dtor-empty, seen-few}
+use borrow.Author.Needs.{needs}
+use Rattle.types.proofs.item.destructor.Statement.{statement}
+use Rattle.types.proofs.item.destructor.Tie as tie
+
+shared-slice-read-if2 : tie.Need-shared-slice-read-if2
+shared-slice-read-if2 c = search needs
+
+returns : tie.Need-returns
+returns c g = dtor-none g (now (c .before .before .before .before .args .bs)) (c .before .before .if1 .taken) (c .if2 .taken)
+
+shared-slice-read-if3 : tie.Need-shared-slice-read-if3
+shared-slice-read-if3 c = search needs
+
+sub-seen-unsigned : tie.Need-sub-seen-unsigned
+sub-seen-unsigned c = search needs
+
+part-seen-unsigned-start : tie.Need-part-seen-unsigned-start
+part-seen-unsigned-start c = search needs
+
+part-seen-unsigned-end : tie.Need-part-seen-unsigned-end
+part-seen-unsigned-end c = search needs
+
+seen-unsigned-requires : tie.Need-seen-unsigned-requires
+seen-unsigned-requires c κs = search needs
+
+add-t15 : tie.Need-add-t15
+add-t15 c = let few = seen-few _ _ (c .before .seen-unsigned .ensures) in omega (arith, few)
+
+returns-2 : tie.Need-returns-2
+returns-2 c g =
+    let mid = c .before .before .before .before .before .before .before in
+    let bs = now (mid .before .before .args .bs) in
+    dtor-some g bs _ (mid .if1 .taken) (c .before .before .before .if3 .taken)
+    (c .before .seen-unsigned .ensures ∙ ap (λ (s : List ℕ). seen (takeUnsigned s)) (to-end bs 1)) (c .if4 .taken)
+
+returns-3 : tie.Need-returns-3
+returns-3 c g =
+    let mid = c .before .before .before .before .before .before .before in
+    let bs = now (mid .before .before .args .bs) in
+    dtor-wrong g bs _ (mid .if1 .taken) (c .before .before .before .if3 .taken)
+    (c .before .seen-unsigned .ensures ∙ ap (λ (s : List ℕ). seen (takeUnsigned s)) (to-end bs 1)) (c .if4 .left)
+
+returns-4 : tie.Need-returns-4
+returns-4 c g =
+    let bs = now (c .before .before .before .before .before .before .args .bs) in
+    dtor-other g bs (c .before .before .before .before .if1 .taken) (c .before .before .if2 .left) (c .if3 .left)
+
+returns-5 : tie.Need-returns-5
+returns-5 c g = dtor-empty g (now (c .before .before .args .bs)) (c .if1 .left)
+
+pub destructor-spec : {M : Type 1} → statement M
+destructor-spec =
+    tie.close
+    (tie.spec
+    shared-slice-read-if2
+    returns
+    shared-slice-read-if3
+    sub-seen-unsigned
+    part-seen-unsigned-start
+    part-seen-unsigned-end
+    seen-unsigned-requires
+    add-t15
+    returns-2
+    returns-3
+    returns-4
+    returns-5)

@@ -1,0 +1,58 @@
+-- `optional_item` meets its contract: an O behind a byte is the item. Assumes nothing.
+use native.Mathlib.Omega.{arith}
+use denote.Ref.{now}
+use Rattle.fields.specs.declared.Field.the-variants as field
+use Rattle.types.proofs.ItemLaws.{optional, pair-here, pair-wrong, no-first, pair-item}
+use borrow.Author.Needs.{needs}
+use Rattle.types.proofs.item.optional_item.Statement.{statement}
+use Rattle.types.proofs.item.optional_item.Tie as tie
+
+sub-optional : tie.Need-sub-optional
+sub-optional c = search needs
+
+part-optional-start : tie.Need-part-optional-start
+part-optional-start c = search needs
+
+part-optional-end : tie.Need-part-optional-end
+part-optional-end c = search needs
+
+optional-requires : tie.Need-optional-requires
+optional-requires c κs = search needs
+
+add-t10 : tie.Need-add-t10
+add-t10 c =
+    let s = c .before .before .before .before in
+    let v = c .before .optional in
+    let p = pair-here (s .args .grade) (now (s .args .input)) optional 1 (v .result) (v .ensures) (c .if1 .taken) in
+    omega (arith, p .inside, s .pre .1)
+
+returns : tie.Need-returns
+returns c =
+    let a = c .before .before .before .before .args in
+    let v = c .before .optional in
+    pair-item (a .grade) (now (a .input)) (v .result)
+    (pair-here (a .grade) (now (a .input)) optional 1 (v .result) (v .ensures) (c .if1 .taken))
+
+no-item-requires : tie.Need-no-item-requires
+no-item-requires c κs = search needs
+
+returns-2 : tie.Need-returns-2
+returns-2 c =
+    let a = c .before .before .before .before .before .args in
+    let v = c .before .before .optional in
+    no-first (a .grade) (now (a .input)) field.Optional field.Nothing
+    (pair-wrong (a .grade) (now (a .input)) optional 1 (v .result) (v .ensures) (c .before .if1 .left))
+    (c .no-item .result) (c .no-item .ensures)
+
+pub optional-item-spec : {M : Type 1} → statement M
+optional-item-spec =
+    tie.close
+    (tie.spec
+    sub-optional
+    part-optional-start
+    part-optional-end
+    optional-requires
+    add-t10
+    returns
+    no-item-requires
+    returns-2)
