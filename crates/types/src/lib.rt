@@ -5,6 +5,7 @@ mod function;
 mod groups;
 mod item;
 mod optional;
+mod resource;
 mod small;
 pub mod steps;
 mod straight;

@@ -1,6 +1,7 @@
 // Straight code by kind: an arm a kind, with the component binary document's names.
 use crate::counted;
 use crate::function;
+use crate::resource;
 use crate::small;
 use writing::fits;
 ghost use Prim.Native.Nat.{_<_};
@@ -57,7 +58,7 @@ pub fn row_size(row: &[u32], pool: &[u8]) -> usize
         // function
         15 => function::function_size(row, pool),
         // resource
-        16 => small::resource_size(row),
+        16 => resource::resource_size(row),
         _ => 0,
     }
 }
@@ -101,7 +102,7 @@ pub fn put_row(row: &[u32], pool: &[u8], out: &mut [u8], to: usize)
         // function
         15 => function::put_function(row, pool, out, to),
         // resource
-        16 => small::put_resource(0x3f, row, out, to),
+        16 => resource::put_resource(0x3f, row, out, to),
         _ => {}
     }
 }
@@ -196,9 +197,9 @@ pub fn write_small(row: &[u32], pool: &[u8], out: &mut [u8], at: usize) -> usize
         }
         // resource
         16 => {
-            let size = small::resource_size(row);
+            let size = resource::resource_size(row);
             if fits(size, at, out.len()) {
-                small::put_resource(0x3f, row, out, at);
+                resource::put_resource(0x3f, row, out, at);
                 return size;
             }
         }

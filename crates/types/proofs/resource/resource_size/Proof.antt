@@ -5,8 +5,8 @@ use Rattle.numbers.proofs.LebLaws.{size-bounds}
 use Rattle.fields.specs.Binary.{word}
 use Rattle.types.proofs.SmallLaws.{resource-absent, resource-present}
 use borrow.Author.Needs.{needs}
-use Rattle.types.proofs.small.resource_size.Statement.{statement}
-use Rattle.types.proofs.small.resource_size.Tie as tie
+use Rattle.types.proofs.resource.resource_size.Statement.{statement}
+use Rattle.types.proofs.resource.resource_size.Tie as tie
 
 add-result : tie.Need-add-result
 add-result c =

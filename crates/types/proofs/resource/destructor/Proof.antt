@@ -10,8 +10,8 @@ use Rattle.numbers.specs.Seen.{seen}
 use Rattle.numbers.proofs.BytesLaws.{to-end}
 use Rattle.types.proofs.StoreLaws.{dtor-none, dtor-some, dtor-wrong, dtor-other, dtor-empty, seen-few}
 use borrow.Author.Needs.{needs}
-use Rattle.types.proofs.item.destructor.Statement.{statement}
-use Rattle.types.proofs.item.destructor.Tie as tie
+use Rattle.types.proofs.resource.destructor.Statement.{statement}
+use Rattle.types.proofs.resource.destructor.Tie as tie
 
 shared-slice-read-if2 : tie.Need-shared-slice-read-if2
 shared-slice-read-if2 c = search needs

@@ -2,8 +2,8 @@
 use denote.Ref.{now}
 use Rattle.types.proofs.StoreLaws.{rep-first, rep-second, rep-other, rep-empty}
 use borrow.Author.Needs.{needs}
-use Rattle.types.proofs.item.rep.Statement.{statement}
-use Rattle.types.proofs.item.rep.Tie as tie
+use Rattle.types.proofs.resource.rep.Statement.{statement}
+use Rattle.types.proofs.resource.rep.Tie as tie
 
 shared-slice-read-if2 : tie.Need-shared-slice-read-if2
 shared-slice-read-if2 c = search needs

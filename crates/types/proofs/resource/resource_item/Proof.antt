@@ -15,8 +15,8 @@ use Rattle.types.specs.declared.item.Item.{Item}
 use Rattle.types.specs.Item.{Told}
 use Rattle.types.proofs.StoreLaws.{dtor-inside, rep-there, resource-first, resource-second, resource-both}
 use borrow.Author.Needs.{needs}
-use Rattle.types.proofs.item.resource_item.Statement.{statement}
-use Rattle.types.proofs.item.resource_item.Tie as tie
+use Rattle.types.proofs.resource.resource_item.Statement.{statement}
+use Rattle.types.proofs.resource.resource_item.Tie as tie
 
 -- what is read of a part of the input, from a place on
 rep-of : (g : ℕ) (input : List ℕ) → one g field.Rep (take (length input - 1) (drop 1 input)) ≡ one g field.Rep (drop 1 input)

@@ -7,8 +7,8 @@ use Rattle.fields.specs.Binary.{word}
 use Rattle.fields.proofs.WroteLaws.{same-size}
 use Rattle.types.proofs.SmallLaws.{no-destructor, some-destructor, resource-alone, resource-wrote}
 use borrow.Author.Needs.{needs}
-use Rattle.types.proofs.small.put_resource.Statement.{statement}
-use Rattle.types.proofs.small.put_resource.Tie as tie
+use Rattle.types.proofs.resource.put_resource.Statement.{statement}
+use Rattle.types.proofs.resource.put_resource.Tie as tie
 
 slice-write-out-2 : tie.Need-slice-write-out-2
 slice-write-out-2 c =
