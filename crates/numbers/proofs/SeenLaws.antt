@@ -107,24 +107,21 @@ take-past s33 (b ∷ s) h k = simp (lt-ltb b 128 k, le-ltb b 64 h)
 
 -- ---- numbers of two and of three bytes
 
--- what the bytes come to, and the unit of the bounds: the second byte tells whether there is a third
-abbrev pub few : ℕ → ℕ → ℕ → ℕ
+-- what the bytes come to: the second tells whether there is a third
+abbrev few : ℕ → ℕ → ℕ → ℕ
 few b c d = b % 128 + 128 * (c % 128) + 16384 * (d * (c / 128))
 
-abbrev pub unit : ℕ → ℕ
-unit c = 1 + 127 * (c / 128)
-
-few-two : (b c d : ℕ) → 128 ≤ b → b < 256 → c < 128 → (few b c d ≡ c * 128 + (b - 128)) × (unit c ≡ 1)
+few-two : (b c d : ℕ) → 128 ≤ b → b < 256 → c < 128 → few b c d ≡ c * 128 + (b - 128)
 few-two b c d hb kb hc =
     let none : c / 128 ≡ 0 = omega arith in
     let zero : d * (c / 128) ≡ 0 = ap (λ k. d * k) none ∙ mul-zero d in
-    (omega arith, omega arith)
+    omega arith
 
-few-three : (b c d : ℕ) → 128 ≤ b → b < 256 → 128 ≤ c → c < 256 → (few b c d ≡ (d * 128 + (c - 128)) * 128 + (b - 128)) × (unit c ≡ 128)
+few-three : (b c d : ℕ) → 128 ≤ b → b < 256 → 128 ≤ c → c < 256 → few b c d ≡ (d * 128 + (c - 128)) * 128 + (b - 128)
 few-three b c d hb kb hc kc =
     let one : c / 128 ≡ 1 = omega arith in
     let same : d * (c / 128) ≡ d = ap (λ k. d * k) one ∙ mul-one d in
-    (omega arith, omega arith)
+    omega arith
 
 -- the number of two bytes, its last below 64: not the shortest form, or itself; and a last byte that is too great
 two-low : (b c : ℕ) (s : List ℕ) → 128 ≤ b → c < 64 → c * 128 + (b - 128) < 64 → takeSigned (b ∷ c ∷ s) ≡ Bad
@@ -172,50 +169,50 @@ three-cut : (b c d : ℕ) → 128 ≤ b → 128 ≤ c → 128 ≤ d → takeSign
 unfolding takeIn within32 numberIn more
 three-cut b c d hb hc hd = simp (le-ltb b 128 hb, le-ltb c 128 hc, le-ltb d 128 hd)
 
--- what the bytes come to is seen between the bounds, and nothing outside
-module _ (b c d : ℕ) (hb : 128 ≤ b) (kb : b < 256) (kc : c < 256) where
-  pub few-below : few b c d < 64 * unit c → number 0 0 ≡ seen (takeSigned (b ∷ c ∷ d ∷ []))
+-- where the last two bytes are x and y, what the bytes come to is seen between the bounds of these, and nothing outside
+module _ (b c d x y : ℕ) (hb : 128 ≤ b) (kb : b < 256) (kc : c < 256) (two : c < 128 → (x ≡ b) × (y ≡ c))
+    (three : 128 ≤ c → (x ≡ c) × (y ≡ d)) where
+  few-below : 256 * y + x < 0xc0 → number 0 0 ≡ seen (takeSigned (b ∷ c ∷ d ∷ []))
   few-below h = go (ltb c 128) refl
     where
       go : (t : Bool) → ltb c 128 ≡ t → number 0 0 ≡ seen (takeSigned (b ∷ c ∷ d ∷ []))
       go true e =
-          let hc : c < 128 = ltb-true c 128 e in
-          let is = few-two b c d hb kb hc in
+          let is = two (ltb-true c 128 e) in
           sym (seen-bad _ (two-low b c (d ∷ []) hb (omega (arith, is)) (omega (arith, is))))
       go false e =
           let hc : 128 ≤ c = ltb-false c 128 e in
-          let is = few-three b c d hb kb hc kc in
+          let is = three hc in
           sym (seen-bad _ (three-low b c d [] hb hc (omega (arith, is)) (omega (arith, is))))
 
-  pub few-above : 8192 * unit c ≤ few b c d → number 0 0 ≡ seen (takeSigned (b ∷ c ∷ d ∷ []))
+  few-above : 0x4000 ≤ 256 * y + x → number 0 0 ≡ seen (takeSigned (b ∷ c ∷ d ∷ []))
   few-above h = go (ltb c 128) refl (ltb d 128) refl
     where
       go : (t : Bool) → ltb c 128 ≡ t → (u : Bool) → ltb d 128 ≡ u → number 0 0 ≡ seen (takeSigned (b ∷ c ∷ d ∷ []))
       go true e u q =
           let hc : c < 128 = ltb-true c 128 e in
-          let is = few-two b c d hb kb hc in
+          let is = two hc in
           sym (seen-bad _ (two-past b c (d ∷ []) hb (omega (arith, is)) hc))
       go false e true q =
           let hc : 128 ≤ c = ltb-false c 128 e in
-          let is = few-three b c d hb kb hc kc in
+          let is = three hc in
           sym (seen-bad _ (three-past b c d [] hb hc (omega (arith, is)) (ltb-true d 128 q)))
       go false e false q = sym (seen-cut _ (three-cut b c d hb (ltb-false c 128 e) (ltb-false d 128 q)))
 
-  pub few-is : 64 * unit c ≤ few b c d → few b c d < 8192 * unit c → number (few b c d) (2 + c / 128) ≡ seen (takeSigned (b ∷ c ∷ d ∷ []))
+  few-is : 0xc0 ≤ 256 * y + x → 256 * y + x < 0x4000 → number (few b c y) (2 + c / 128) ≡ seen (takeSigned (b ∷ c ∷ d ∷ []))
   few-is h k = go (ltb c 128) refl
     where
-      go : (t : Bool) → ltb c 128 ≡ t → number (few b c d) (2 + c / 128) ≡ seen (takeSigned (b ∷ c ∷ d ∷ []))
+      go : (t : Bool) → ltb c 128 ≡ t → number (few b c y) (2 + c / 128) ≡ seen (takeSigned (b ∷ c ∷ d ∷ []))
       go true e =
           let hc : c < 128 = ltb-true c 128 e in
-          let is = few-two b c d hb kb hc in
-          let value : few b c d ≡ c * 128 + (b - 128) = is .0 in
+          let is = two hc in
+          let value = few-two b c y hb kb hc in
           let took : 2 + c / 128 ≡ 2 = omega arith in
           (λ i. number (value i) (took i))
           ∙ sym (seen-value _ _ _ (two-is b c (d ∷ []) hb kb (omega (arith, is)) (omega (arith, is))))
       go false e =
           let hc : 128 ≤ c = ltb-false c 128 e in
-          let is = few-three b c d hb kb hc kc in
-          let value : few b c d ≡ (d * 128 + (c - 128)) * 128 + (b - 128) = is .0 in
+          let is = three hc in
+          let value = ap (λ n. few b c n) (is .1) ∙ few-three b c d hb kb hc kc in
           let took : 2 + c / 128 ≡ 3 = omega arith in
           (λ i. number (value i) (took i))
           ∙ sym (seen-value _ _ _ (three-is b c d [] hb kb hc kc (omega (arith, is)) (omega (arith, is))))
@@ -238,11 +235,40 @@ first-three (b ∷ []) h = absurd (omega arith)
 first-three (b ∷ c ∷ []) h = absurd (omega arith)
 first-three (b ∷ c ∷ d ∷ s) h = refl
 
-pub short-is : (s : List ℕ) → 3 ≤ length s → 128 ≤ getD s 0 0
+short-is : (s : List ℕ) → 3 ≤ length s → 128 ≤ getD s 0 0
     → seen (takeSigned (getD s 0 0 ∷ getD s 1 0 ∷ getD s 2 0 ∷ [])) ≡ shortSigned s
 unfolding shortSigned
 short-is s h k =
     simp (le-ltb (length s) 3 h, le-ltb (getD s 0 0) 128 k) (ap (λ (l : List ℕ). seen (takeSigned l)) (sym (first-three s h)))
+
+-- its last two bytes, where the second is the last, and where it is not
+abbrev before : List ℕ → ℕ
+before s = getD s (getD s 1 0 / 128) 0
+
+abbrev last : List ℕ → ℕ
+last s = getD s (getD s 1 0 / 128 + 1) 0
+
+last-two : (s : List ℕ) → getD s 1 0 < 128 → (before s ≡ getD s 0 0) × (last s ≡ getD s 1 0)
+last-two s h =
+    let none : getD s 1 0 / 128 ≡ 0 = omega arith in
+    (ap (λ k. getD s k 0) none, ap (λ k. getD s (k + 1) 0) none)
+
+last-three : (s : List ℕ) → getD s 1 0 < 256 → 128 ≤ getD s 1 0 → (before s ≡ getD s 1 0) × (last s ≡ getD s 2 0)
+last-three s k h =
+    let one : getD s 1 0 / 128 ≡ 1 = omega arith in
+    (ap (λ k. getD s k 0) one, ap (λ k. getD s (k + 1) 0) one)
+
+-- they tell whether there is one
+module _ (s : List ℕ) (h : 3 ≤ length s) (hb : 128 ≤ getD s 0 0) (kb : getD s 0 0 < 256) (kc : getD s 1 0 < 256) where
+  pub short-below : 256 * last s + before s < 0xc0 → number 0 0 ≡ shortSigned s
+  short-below k = few-below _ _ _ _ _ hb kb kc (last-two s) (last-three s kc) k ∙ short-is s h hb
+
+  pub short-above : 0x4000 ≤ 256 * last s + before s → number 0 0 ≡ shortSigned s
+  short-above k = few-above _ _ _ _ _ hb kb kc (last-two s) (last-three s kc) k ∙ short-is s h hb
+
+  pub short-between : 0xc0 ≤ 256 * last s + before s → 256 * last s + before s < 0x4000
+      → number (few (getD s 0 0) (getD s 1 0) (last s)) (2 + getD s 1 0 / 128) ≡ shortSigned s
+  short-between k m = few-is _ _ _ _ _ hb kb kc (last-two s) (last-three s kc) k m ∙ short-is s h hb
 
 -- a number at the front is there whatever follows
 module _ (end : ℕ) where
