@@ -36,7 +36,7 @@ use denote.Triple.Spec.{tripleOf}
 use denote.Triple.Statement.{Contract}
 use denote.Triple.Clauses.{ensured, lasts}
 use Rattle.fields.specs.declared.Answer.{Answer}
-use Rattle.fields.specs.Write.{left}
+use Rattle.fields.specs.Answers.{left}
 use Rattle.fields.proofs.Answer as N
 use Rattle.fields.proofs.Answer.Laws as N′
 use Rattle.sections.specs.declared.Section.{Section}

@@ -2,7 +2,7 @@
 use Prim.Native.Nat.{ℕ}
 use mathlib.Core.List.{List, [], _∷_}
 use Rattle.fields.specs.declared.Answer.the-variants.{Size}
-use Rattle.fields.specs.Write.{Left}
+use Rattle.fields.specs.Answers.{Left}
 use Rattle.sections.specs.declared.Section.{Section}
 use Rattle.sections.specs.Section.{fresh}
 use Rattle.sections.specs.Steps.{Turn, turned, gives, rowing, opening, asyncing, paraming, resulting, abandoning}

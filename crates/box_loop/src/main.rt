@@ -1,11 +1,11 @@
 // The box's loop in small: one section's state is kept in a local and lent to each step, and the same steps go by value beside it.
 use fields::Answer;
-use libc::STDOUT_FILENO;
 use sections::Section;
 use sections::Turned;
+use telling::say;
+use telling::say_field;
 ghost use mathlib.Core.Path.{_≡_};
-ghost use Prim.Native.Nat.{_<_};
-ghost use Rattle.fields.specs.Write.{left};
+ghost use Rattle.fields.specs.Answers.{left};
 ghost use Rattle.box_loop.specs.Script.{scripted, closed};
 
 // Which step a line is of.
@@ -23,30 +23,7 @@ const ABANDON: u32 = 5;
 
 const FINISH: u32 = 6;
 
-fn say(text: &[u8]) {
-    io::write_all(STDOUT_FILENO, text);
-}
-
-fn say_field(name: &[u8], n: u64) {
-    say(name);
-    io::print_decimal(STDOUT_FILENO, n);
-}
-
-fn wide(x: u8) -> u64
-    ensures { λ r. ⌜ r < 256 ⌝ }
-{
-    x as u64
-}
-
-fn say_bytes(bytes: &[u8]) {
-    let mut i = 0;
-    while i < bytes.len() {
-        io::print_hex(STDOUT_FILENO, wide(bytes[i]), 2);
-        i += 1;
-    }
-}
-
-fn say_step(step: u32) {
+fn say_step(step: u32) -> usize {
     match step {
         0 => say(b"row"),
         1 => say(b"open"),
@@ -156,8 +133,12 @@ fn finish_by_value(section: Section, body: &[u8], out: &mut [u8]) -> Answer {
 // The finished section.
 fn say_finished(answer: Answer, out: &[u8]) {
     match answer {
-        Answer::Size(size) => say_bytes(numbers::part(out, 0, size)),
-        Answer::Refused(_, _) => say(b"refused"),
+        Answer::Size(size) => {
+            telling::say_bytes(numbers::part(out, 0, size));
+        }
+        Answer::Refused(_, _) => {
+            say(b"refused");
+        }
     }
     say(b"\n");
 }

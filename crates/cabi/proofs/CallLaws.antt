@@ -4,7 +4,7 @@ use Prim.Native.Nat.{ℕ}
 use mathlib.Core.Path.{_≡_, sym, ap, _∙_}
 use mathlib.Core.List.{List}
 use Rattle.fields.specs.declared.Answer.{Answer}
-use Rattle.fields.specs.Write.{Left, left}
+use Rattle.fields.specs.Answers.{Left, left}
 use Rattle.sections.specs.declared.Section.{Section}
 use Rattle.sections.specs.declared.Turned.{Turned}
 use Rattle.sections.specs.Steps.{Turn, turned}
@@ -13,7 +13,8 @@ use Rattle.cabi.specs.declared.Reply.{Reply}
 use Rattle.cabi.specs.declared.Given.{Given}
 use Rattle.cabi.specs.declared.Given.the-variants.{Is, Not}
 use Rattle.cabi.specs.Reply.{replyOf, limit}
-use Rattle.cabi.specs.State.{numbersOf, stepped, ofTurn, step, Settled, finished, ofLeft, finishes}
+use Rattle.cabi.specs.State.{numbersOf, stepped, ofTurn, step, finished, ofLeft, finishes}
+use Rattle.cabi.specs.inside.Settled.{Settled}
 
 -- a step that a state took
 pub step-taken : {g h : Given} {s : Section} (f : Section → Turn) (state body : List ℕ) {t : Turned} {r : Reply} {state' body' : List ℕ}

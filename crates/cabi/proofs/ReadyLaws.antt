@@ -1,5 +1,5 @@
 -- What a row leaves where the state is ready: the row is written behind the used part, and used and count grow, or the same refusal.
-use Prim.Native.Nat.{ℕ, _+_, _≤_, _<_, _^_}
+use Prim.Native.Nat.{ℕ, _+_, _<_, _^_}
 use native.Mathlib.Omega.{arith}
 use mathlib.Core.Path.{_≡_, sym, ap, subst, _∙_}
 use mathlib.Core.Bool.{true, false}
@@ -9,18 +9,20 @@ use lib.ListN.{length, getD}
 use Rattle.fields.specs.declared.Answer.{Answer}
 use Rattle.fields.specs.declared.Answer.the-variants.{Size, Refused}
 use Rattle.fields.specs.declared.Refusal.{Refusal}
-use Rattle.fields.specs.Write.{left, numberOf, valueOf}
+use Rattle.fields.specs.Answers.{left, numberOf, valueOf}
 use Rattle.sections.specs.declared.Phase.the-variants.{Closed}
 use Rattle.sections.specs.declared.Section.{Section}
 use Rattle.sections.specs.Section.{sounds, writeFamily}
-use Rattle.sections.specs.Steps.{Fits, wrote, rowing}
+use Rattle.sections.specs.inside.Bounded.{Bounded}
+use Rattle.sections.specs.Steps.{wrote, rowing}
 use Rattle.sections.proofs.FamilyLaws.{wrote-limited}
 use Rattle.sections.proofs.StepLaws.{family-small, family-writer, written-fits}
 use Rattle.cabi.specs.declared.Reply.{Reply}
 use Rattle.cabi.specs.declared.Given.the-variants.{Is}
 use Rattle.cabi.specs.Reply.{replyOf}
 use Rattle.cabi.specs.State.{given, numbersOf, stepped, ofTurn, step}
-use Rattle.cabi.specs.Ready.{Ready}
+use Rattle.cabi.specs.inside.Ready.{Ready}
+use Rattle.numbers.proofs.Impossible.{impossible}
 
 -- five numbers as a closed section
 abbrev pub standing : List ℕ → Section
@@ -28,7 +30,7 @@ standing state = record { family = getD state 0 0; used = getD state 1 0; count 
 
 -- a test that failed says nothing of the numbers
 pub not-ready : {X : Type 0} → false ≡ true → X
-not-ready e = let z : _≡_ {A = ℕ} 0 1 = cc in absurd (omega arith)
+not-ready e = impossible cc
 
 module _ {state : List ℕ} {n : ℕ} (k : Ready state n) where
   ready-sound : sounds (standing state) n ≡ true
@@ -45,7 +47,7 @@ module _ {state : List ℕ} {n : ℕ} (k : Ready state n) where
 -- what was written lies within the body, so the grown part still has a length
 pub ready-fits : (state row pool body : List ℕ) {a : Answer} {m : ℕ} {new : List ℕ}
     → left a new ≡ writeFamily (getD state 0 0) row pool body (getD state 1 0) → a ≡ Size m → length body < 2 ^ 64 → getD state 1 0 + m < 2 ^ 64
-ready-fits state row pool body e i h = subst (Fits (standing state)) i (written-fits (family-writer (standing state) row pool body) e h)
+ready-fits state row pool body e i h = subst (Bounded (standing state)) i (written-fits (family-writer (standing state) row pool body) e h)
 
 -- the step of a ready state is the row as its writer leaves it, which tests for LIMIT too
 module _ {state : List ℕ} (row pool body : List ℕ) (k : Ready state (length body)) where

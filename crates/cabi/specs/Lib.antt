@@ -1,5 +1,5 @@
 pub mod Read
-pub mod Ready
 pub mod Reply
 pub mod Sheet
 pub mod State
+pub mod inside

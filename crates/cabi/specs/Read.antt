@@ -3,8 +3,7 @@ use Prim.Native.Nat.{ℕ}
 use mathlib.Core.List.{List}
 use Rattle.fields.specs.declared.Read.{Read}
 use Rattle.fields.specs.declared.Read.the-variants.{Item, Refused}
-use Rattle.fields.specs.Read.{LeftRow}
-use Rattle.fields.specs.Write.{numberOfRefusal}
+use Rattle.fields.specs.Answers.{LeftRow, numberOfRefusal}
 use Rattle.cabi.specs.declared.Reply.{Reply}
 
 -- words and bytes taken, or the refusal

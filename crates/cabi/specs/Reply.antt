@@ -3,7 +3,7 @@ use Prim.Native.Nat.{ℕ}
 use Rattle.fields.specs.declared.Answer.{Answer}
 use Rattle.fields.specs.declared.Answer.the-variants.{Refused}
 use Rattle.fields.specs.declared.Refusal.the-variants as refusal
-use Rattle.fields.specs.Write.{numberOf, valueOf}
+use Rattle.fields.specs.Answers.{numberOf, valueOf}
 use Rattle.cabi.specs.declared.Reply.{Reply}
 
 abbrev pub replyOf : Answer → Reply

@@ -1,16 +1,13 @@
 -- A section's state as five numbers: family, used, count, phase (0 closed, 1 opened, 2 async given, 3 params given), start.
 use Prim.Native.Nat.{ℕ, _^_}
-use mathlib.Core.Path.{_≡_}
-use mathlib.Core.Bool.{Bool, true, false}
+use mathlib.Core.Bool.{cond}
 use mathlib.Core.List.{List, [], _∷_}
 use lib.Dec.{eqb, ltb}
 use lib.ListN.{getD}
-use Rattle.fields.specs.Binary.{pick}
-use Rattle.fields.specs.Write.{Left}
+use Rattle.fields.specs.Answers.{Left}
 use Rattle.sections.specs.declared.Phase.{Phase}
 use Rattle.sections.specs.declared.Phase.the-variants.{Closed, Opened, Asynced, Parametered}
 use Rattle.sections.specs.declared.Section.{Section}
-use Rattle.sections.specs.declared.Turned.{Turned}
 use Rattle.sections.specs.Steps.{Turn}
 use Rattle.sections.specs.Finish.{finishing}
 use Rattle.cabi.specs.declared.Reply.{Reply}
@@ -21,8 +18,8 @@ use Rattle.cabi.specs.Reply.{replyOf, limit}
 -- a closed state has start 0; there is no phase above 3
 abbrev pub phaseOf : ℕ → ℕ → (Phase → Given) → Given
 phaseOf phase start k =
-    pick (eqb phase 0) (pick (eqb start 0) (k Closed) Not)
-    (pick (eqb phase 1) (k (Opened start)) (pick (eqb phase 2) (k (Asynced start)) (pick (eqb phase 3) (k (Parametered start)) Not)))
+    cond (eqb phase 0) (cond (eqb start 0) (k Closed) Not)
+    (cond (eqb phase 1) (k (Opened start)) (cond (eqb phase 2) (k (Asynced start)) (cond (eqb phase 3) (k (Parametered start)) Not)))
 
 abbrev pub sectionOf : ℕ → ℕ → ℕ → Phase → Given
 sectionOf family used count phase = Is (record { family = family; used = used; count = count; phase = phase })
@@ -30,8 +27,8 @@ sectionOf family used count phase = Is (record { family = family; used = used; c
 -- the state that five numbers are, if family and count fit 32 bits
 unfoldable pub given : List ℕ → Given
 given s =
-    pick (ltb (getD s 0 0) (2 ^ 32))
-    (pick (ltb (getD s 2 0) (2 ^ 32))
+    cond (ltb (getD s 0 0) (2 ^ 32))
+    (cond (ltb (getD s 2 0) (2 ^ 32))
     (phaseOf (getD s 3 0) (getD s 4 0) (sectionOf (getD s 0 0) (getD s 1 0) (getD s 2 0))) Not) Not
 
 -- the five numbers of a state
@@ -66,11 +63,6 @@ ofTurn t = stepped (replyOf (t .gave .answer)) (numbersOf (t .gave .section)) (t
 abbrev pub step : Given → (Section → Turn) → List ℕ → List ℕ → Stepped
 step (Is s) f state body = ofTurn (f s)
 step Not f state body = stepped limit state body
-
--- the reply to what a step hands back, and the state that is stored of it
-pub record Settled (t : Turned) (r : Reply) (state : List ℕ) : Type 0 where
-  pub says : r ≡ replyOf (t .answer)
-  pub keeps : state ≡ numbersOf (t .section)
 
 -- what finishing leaves: its reply and the output
 pub record Finished : Type 0 where

@@ -8,16 +8,17 @@ use sections::Turned;
 ghost use mathlib.Core.Bool.{true};
 ghost use mathlib.Core.Path.{_≡_};
 ghost use lib.ListN.{length};
-ghost use Rattle.fields.specs.Read.{Few};
-ghost use Rattle.types.specs.Read.{readType};
-ghost use Rattle.imports.specs.Read.{readImport};
+ghost use Rattle.reading.specs.inside.Few.{Few};
+ghost use Rattle.items.specs.ReadType.{readType};
+ghost use Rattle.items.specs.ReadImport.{readImport};
 ghost use Rattle.sections.specs.Steps.{rowing, opening, asyncing, paraming, resulting, abandoning};
 ghost use Rattle.sheets.specs.Sheet.{sheeted};
 ghost use Rattle.cabi.specs.Read.{replyOfRead, filled, ofRead};
 ghost use Rattle.cabi.specs.Reply.{replyOf, limit};
-ghost use Rattle.cabi.specs.Ready.{Ready};
+ghost use Rattle.cabi.specs.inside.Ready.{Ready};
 ghost use Rattle.cabi.specs.Sheet.{written, ofSheet};
-ghost use Rattle.cabi.specs.State.{sectionOf, phaseOf, given, phaseNumber, startNumber, numbersOf, stepped, Settled, step, finished, finishes};
+ghost use Rattle.cabi.specs.State.{sectionOf, phaseOf, given, phaseNumber, startNumber, numbersOf, stepped, step, finished, finishes};
+ghost use Rattle.cabi.specs.inside.Settled.{Settled};
 
 // What every call gives back.
 #[repr(C)]
@@ -193,7 +194,7 @@ pub extern "C" fn tb_sheet(sheet: &[u8], body: &mut [u8], out: &mut [u8]) -> Rep
 pub extern "C" fn tb_read_type(input: &[u8], grade: u32, row: &mut [u32]) -> Reply
     ensures { λ r. ⌜ filled r (now (row .exit)) ≡ ofRead (readType grade (now (input .entry)) (now (row .entry))) ⌝ }
 {
-    reply_to_read(types::read(input, grade, row))
+    reply_to_read(items::read_type(input, grade, row))
 }
 
 // The import at the front of the input.
@@ -201,7 +202,7 @@ pub extern "C" fn tb_read_type(input: &[u8], grade: u32, row: &mut [u32]) -> Rep
 pub extern "C" fn tb_read_import(input: &[u8], grade: u32, row: &mut [u32]) -> Reply
     ensures { λ r. ⌜ filled r (now (row .exit)) ≡ ofRead (readImport grade (now (input .entry)) (now (row .entry))) ⌝ }
 {
-    reply_to_read(imports::read(input, grade, row))
+    reply_to_read(items::read_import(input, grade, row))
 }
 
 // Whether five numbers are a closed section of a known family that can take an entry more, over a body of n bytes.

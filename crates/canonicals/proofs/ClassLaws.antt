@@ -4,7 +4,7 @@ use Prim.Native.Nat.{ℕ, zero, suc, _+_, _-_, _*_, _≤_, _<_}
 use native.Mathlib.Omega.{arith}
 use mathlib.Core.Path.{_≡_, refl, sym, ap, subst, _∙_}
 use mathlib.Core.List.{List, [], _∷_, _++_, append-nil}
-use mathlib.Core.Bool.{Bool, true, false}
+use mathlib.Core.Bool.{Bool, true, false, cond}
 use borrow.Author.Tests.{ltb-true, lt-ltb, eq-eqb}
 use lib.Dec.{ltb}
 use lib.ListN.{length, drop, set, length-append}
@@ -20,29 +20,30 @@ use Rattle.fields.specs.declared.Field.the-variants as field
 use Rattle.fields.specs.declared.Flaw.the-variants.{Right, Wrong}
 use Rattle.fields.specs.declared.Refusal.the-variants.{Tag, Room}
 use Rattle.fields.specs.declared.Found.the-variants.{Is, Not}
-use Rattle.fields.specs.Binary as binary
-use Rattle.fields.specs.Binary.{pick, word, flag, representation, indexed, canonopt}
-use Rattle.fields.specs.Judge.{wide, below, choice, flaw}
-use Rattle.fields.specs.Run.{Wrote}
-use Rattle.fields.specs.Row.{measuredRow, rowBytes, writeRow}
+use Rattle.writing.specs.Binary as binary
+use Rattle.fields.specs.Words.{word, indexed, wide}
+use Rattle.writing.specs.Binary.{flag, representation, canonopt}
+use Rattle.writing.specs.Judge.{below, choice, flaw}
+use Rattle.writing.specs.inside.Wrote.{Wrote}
+use Rattle.writing.specs.Row.{measuredRow, rowBytes, writeRow}
 use Rattle.fields.specs.Shape.{repeated, widths}
 use Rattle.fields.specs.Table.{elements}
-use Rattle.fields.specs.Write.{left}
-use Rattle.fields.proofs.FlawLaws.{choice-below}
+use Rattle.fields.specs.Answers.{left}
+use Rattle.writing.proofs.FlawLaws.{choice-below}
 use Rattle.fields.proofs.NearLaws.{first-word, second-word}
-use Rattle.fields.proofs.WholeLaws.{accepted}
-use Rattle.fields.proofs.WroteLaws.{then, then-byte, same-size}
-use Rattle.writing.specs.Seen as writing
-use Rattle.writing.specs.Seen.{within, Rights, Tried}
+use Rattle.writing.proofs.WholeLaws.{accepted}
+use Rattle.writing.proofs.WroteLaws.{then, then-byte, same-size}
+use Rattle.writing.specs.inside.Rows as writing
+use Rattle.writing.specs.Sizes.{within}
+use Rattle.writing.specs.inside.Rows.{Rights, Tried}
 use Rattle.writing.proofs.GroupLaws as group
 use Rattle.writing.proofs.GroupLaws.{choice-element, byte-wrote, bytes-wrote, number-wrote}
-use Rattle.writing.proofs.RowLaws.{within-fits, within-not, written-answer, room-answer}
-use Rattle.writing.proofs.RowLaws.{index-at, rep-at, nothing-at, lead-seen, lead-held, two-seen, two-held, many-seen, many-held}
+use Rattle.writing.proofs.RowLaws.{within-fits, within-not, written-answer, room-answer, index-at, rep-at, nothing-at, lead-known, lead-held, two-known, two-held, many-known, many-held}
 use Rattle.canonicals.specs.declared.Class.{Class}
 use Rattle.canonicals.specs.declared.Class.the-variants as class
-use Rattle.canonicals.specs.Class.{shapeFor, Choices, choices, Chosen, Optioned, optionedBytes, optionedSize}
-use Rattle.canonicals.specs.Class.{Good, bytesFor, sizeFor, Seen, Put}
+use Rattle.canonicals.specs.inside.Class.{shapeFor, Choices, choices, Chosen, Optioned, optionedBytes, optionedSize, Good, bytesFor, sizeFor, Known, Put}
 use Rattle.canonicals.specs.Table.{optioned}
+use Rattle.numbers.proofs.Impossible.{impossible}
 
 -- ---- storing
 
@@ -51,7 +52,7 @@ put-none =
     record { none = λ e. refl; seen = λ h. absurd (omega arith); room = λ h. absurd (omega arith); content = λ h. absurd (omega arith) }
 
 -- a row that was seen to be right, where its bytes have room
-module _ (out : List ℕ) (at : ℕ) {c : Class} {row : List ℕ} {r : ℕ} (s : 0 < r → Seen c row r) {b : Bool}
+module _ (out : List ℕ) (at : ℕ) {c : Class} {row : List ℕ} {r : ℕ} (s : 0 < r → Known c row r) {b : Bool}
     (e : b ≡ within r at (length out)) (t : b ≡ true) where
   fit : (0 < r) × (at + r ≤ length out)
   fit = within-fits r at (length out) (sym e ∙ t)
@@ -128,14 +129,14 @@ pub some-option : (k x : ℕ) → 0 < length (canonopt k x)
 unfolding canonopt
 some-option k x = omega arith
 
-pub indexed-seen : (k x : ℕ) → k < 10 → indexed k ≡ true → {n : ℕ} → n ≡ length (unsigned x)
+pub indexed-known : (k x : ℕ) → k < 10 → indexed k ≡ true → {n : ℕ} → n ≡ length (unsigned x)
     → (choice (k ∷ x ∷ []) ≡ Right) × (1 + n ≡ length (canonopt k x))
 unfolding choice
-indexed-seen k x h e en = (simp (lt-ltb _ _ h, e), omega (arith, ap length (canonopt-indexed k x e)))
+indexed-known k x h e en = (simp (lt-ltb _ _ h, e), omega (arith, ap length (canonopt-indexed k x e)))
 
-pub bare-seen : (k x : ℕ) → k < 10 → indexed k ≡ false → x ≡ 0 → (choice (k ∷ x ∷ []) ≡ Right) × (1 ≡ length (canonopt k x))
+pub bare-known : (k x : ℕ) → k < 10 → indexed k ≡ false → x ≡ 0 → (choice (k ∷ x ∷ []) ≡ Right) × (1 ≡ length (canonopt k x))
 unfolding choice
-bare-seen k x h e z = (simp (lt-ltb _ _ h, e, eq-eqb _ _ z), omega (arith, ap length (canonopt-bare k x e)))
+bare-known k x h e z = (simp (lt-ltb _ _ h, e, eq-eqb _ _ z), omega (arith, ap length (canonopt-bare k x e)))
 
 pub indexed-room : (k x : ℕ) → indexed k ≡ true → length (canonopt k x) ≡ 1 + length (unsigned x)
 indexed-room k x e = omega (arith, ap length (canonopt-indexed k x e))
@@ -198,9 +199,9 @@ module _ {row : List ℕ} {from n base left at made : ℕ} (g : Going row from n
   going-end h = let k = group.going-end left g h in record { right = rights-choices [] n (drop from row) (k .right); size = k .size }
 
 -- and so the row
-pub optioned-seen : (row : List ℕ) (head : ℕ) {a b r : ℕ} → length row ≤ 16384 → length row ≡ 3 + word row 2 * 2 → a ≡ length (unsigned (word row 1))
+pub optioned-known : (row : List ℕ) (head : ℕ) {a b r : ℕ} → length row ≤ 16384 → length row ≡ 3 + word row 2 * 2 → a ≡ length (unsigned (word row 1))
     → b ≡ length (unsigned (word row 2)) → Chosen (word row 2) (drop 3 row) (head + a + b) r → Optioned row × (r ≡ head + optionedSize row)
-optioned-seen row head short width ea eb c = (record { short = short; width = width; right = c .right }, omega (arith, c .size))
+optioned-known row head short width ea eb c = (record { short = short; width = width; right = c .right }, omega (arith, c .size))
 
 -- `left` options are still to be put
 abbrev pub Putting : List ℕ → ℕ → ℕ → List ℕ → ℕ → ℕ → ℕ → ℕ → List ℕ → Type 0
@@ -241,7 +242,7 @@ choice-small : (k x : ℕ) → length (canonopt k x) ≤ 6
 unfolding canonopt
 choice-small k x = go (indexed k)
   where
-    go : (b : Bool) → length (k ∷ pick b (unsigned x) []) ≤ 6
+    go : (b : Bool) → length (k ∷ cond b (unsigned x) []) ≤ 6
     go true = omega (arith, number-size x)
     go false = omega arith
 
@@ -256,7 +257,7 @@ choices-small (suc n) os =
       choices-small n (drop 2 os),
     )
 
-flag-at : (pool row : List ℕ) (at : ℕ) → word row at < 2 → writing.Seen pool field.Flag (drop at row) 1
+flag-at : (pool row : List ℕ) (at : ℕ) → word row at < 2 → writing.Known pool field.Flag (drop at row) 1
 unfolding flaw binary.bytes
 flag-at pool row at h =
     let k : word (drop at row) 0 < 2 = omega (arith, first-word row at) in
@@ -268,7 +269,7 @@ module _ (lead : ℕ) (row pool : List ℕ) (small : length pool ≤ 65536) wher
       → Optioned row → measuredRow (Is (optioned lead byte)) row pool ≡ Size (1 + m + optionedSize row)
   unfolding wide widths flaw binary.bytes
   optioned-right byte m ez always em few h =
-      many-seen (field.Fixed lead) byte field.Index field.Choice field.Nothing field.Nothing refl ez {w = 2} refl row pool (choice-element pool)
+      many-known (field.Fixed lead) byte field.Index field.Choice field.Nothing field.Nothing refl ez {w = 2} refl row pool (choice-element pool)
       (λ ws. refl) always small (h .short) (omega (arith, h .width)) (index-at pool row 1 refl refl) refl
       (record { right = choices-rights pool (word row 2) (drop 3 row) (h .right); size = refl }) (nothing-at pool (drop (3 + word row 2 * 2) row))
       (omega (arith, em))
@@ -277,28 +278,28 @@ module _ (lead : ℕ) (row pool : List ℕ) (small : length pool ≤ 65536) wher
   class-right : (c : Class) → Good c row → measuredRow (shapeFor c lead) row pool ≡ Size (sizeFor c row)
   unfolding shapeFor wide flaw binary.bytes
   class-right class.Nothing h =
-      lead-seen lead field.Nothing field.Nothing row pool small (omega arith) h (nothing-at pool (drop 1 row))
+      lead-known lead field.Nothing field.Nothing row pool small (omega arith) h (nothing-at pool (drop 1 row))
       (nothing-at pool (drop 1 row)) refl (omega arith)
   class-right class.Zero h =
-      two-seen (field.Fixed lead) (field.Fixed 0x00) field.Nothing field.Nothing refl refl row pool (λ ws. refl) (λ ws. refl) small (omega arith) h
+      two-known (field.Fixed lead) (field.Fixed 0x00) field.Nothing field.Nothing refl refl row pool (λ ws. refl) (λ ws. refl) small (omega arith) h
       (nothing-at pool (drop 1 row)) (nothing-at pool (drop 1 row)) refl (omega arith)
   class-right class.Index h =
-      lead-seen lead field.Index field.Nothing row pool small (omega arith) h (index-at pool row 1 refl refl) (nothing-at pool (drop 2 row))
+      lead-known lead field.Index field.Nothing row pool small (omega arith) h (index-at pool row 1 refl refl) (nothing-at pool (drop 2 row))
       (omega arith) (omega (arith, number-size (word row 1)))
   class-right class.ZeroIndex h =
-      two-seen (field.Fixed lead) (field.Fixed 0x00) field.Index field.Nothing refl refl row pool (λ ws. refl) (λ ws. refl) small (omega arith) h
+      two-known (field.Fixed lead) (field.Fixed 0x00) field.Index field.Nothing refl refl row pool (λ ws. refl) (λ ws. refl) small (omega arith) h
       (index-at pool row 1 refl refl) (nothing-at pool (drop 2 row)) (omega arith) (omega (arith, number-size (word row 1)))
   class-right class.Indices h =
-      lead-seen lead field.Index field.Index row pool small (omega arith) h (index-at pool row 1 refl refl) (index-at pool row 2 refl refl) refl
+      lead-known lead field.Index field.Index row pool small (omega arith) h (index-at pool row 1 refl refl) (index-at pool row 2 refl refl) refl
       (omega (arith, number-size (word row 1), number-size (word row 2)))
   class-right class.Flag h =
-      lead-seen lead field.Flag field.Nothing row pool small (omega (arith, h .0)) (h .0) (flag-at pool row 1 (h .1))
+      lead-known lead field.Flag field.Nothing row pool small (omega (arith, h .0)) (h .0) (flag-at pool row 1 (h .1))
       (nothing-at pool (drop 2 row)) refl (omega arith)
   class-right class.IndexFlag h =
-      lead-seen lead field.Index field.Flag row pool small (omega (arith, h .0)) (h .0) (index-at pool row 1 refl refl)
+      lead-known lead field.Index field.Flag row pool small (omega (arith, h .0)) (h .0) (index-at pool row 1 refl refl)
       (flag-at pool row 2 (h .1)) (omega arith) (omega (arith, number-size (word row 1)))
   class-right class.RepIndex h =
-      lead-seen lead field.Rep field.Index row pool small (omega (arith, h .0)) (h .0) (rep-at pool row 1 refl (h .1))
+      lead-known lead field.Rep field.Index row pool small (omega (arith, h .0)) (h .0) (rep-at pool row 1 refl (h .1))
       (index-at pool row 2 refl refl) refl (omega (arith, number-size (word row 2)))
   class-right class.Options h = optioned-right field.Nothing 0 refl (λ ws. refl) refl (omega arith) h
   class-right class.ZeroOptions h = optioned-right (field.Fixed 0x00) 1 refl (λ ws. refl) refl (omega arith) h
@@ -316,9 +317,9 @@ record Held (c : Class) (lead : ℕ) (row pool : List ℕ) (n : ℕ) : Type 0 wh
 low-at : (row : List ℕ) (at : ℕ) → below 2 (drop at row) 0 ≡ Right → word row at < 2
 low-at row at e = go (ltb (word (drop at row) 0) 2) refl e
   where
-    go : (b : Bool) → ltb (word (drop at row) 0) 2 ≡ b → pick b Right (Wrong Tag 0) ≡ Right → word row at < 2
+    go : (b : Bool) → ltb (word (drop at row) 0) 2 ≡ b → cond b Right (Wrong Tag 0) ≡ Right → word row at < 2
     go true p e = omega (arith, ltb-true (word (drop at row) 0) 2 p, first-word row at)
-    go false p e = let z : _≡_ {A = ℕ} 0 1 = cc in absurd (omega arith)
+    go false p e = impossible cc
 
 -- the words at 1 and 2, of which fields have the first from there on
 module _ (row : List ℕ) where
@@ -411,7 +412,7 @@ module _ (lead : ℕ) (row pool : List ℕ) {n : ℕ} where
   class-held class.ZeroOptions e =
       let h = optioned-held (field.Fixed 0x00) refl e in
       record { right = h .0; size = h .1; some = omega (arith, h .1); made = h .2 }
-  class-held class.Not e = let h = accepted Not row pool n e .is in let z : _≡_ {A = ℕ} 0 1 = cc in absurd (omega arith)
+  class-held class.Not e = let h = accepted Not row pool n e .is in impossible cc
 
 -- ---- what straight code answers
 
@@ -424,7 +425,7 @@ pub wrote-told : {c d : Class} → d ≡ c → (lead : ℕ) (row out : List ℕ)
     → new ≡ sets out to (bytesFor d lead row)
 wrote-told e lead row out to p = p ∙ ap (λ k. sets out to (bytesFor k lead row)) (sym e)
 
-pub class-sized : {c d : Class} → d ≡ c → (row pool : List ℕ) {r : ℕ} → length pool ≤ 65536 → Seen c row r → (lead : ℕ)
+pub class-sized : {c d : Class} → d ≡ c → (row pool : List ℕ) {r : ℕ} → length pool ≤ 65536 → Known c row r → (lead : ℕ)
     → measuredRow (shapeFor d lead) row pool ≡ Size r
 class-sized {c} e row pool small s lead =
     ap (λ x. measuredRow (shapeFor x lead) row pool) e ∙ class-right lead row pool small c (s .right) ∙ ap Size (sym (s .size))

@@ -3,7 +3,7 @@ use Prim.Native.Nat.{ℕ, _+_, _*_, _≤_, _<_}
 use native.Mathlib.Omega.{arith}
 use mathlib.Core.Path.{_≡_, refl, sym, ap, subst, _∙_}
 use mathlib.Core.Bool.{Bool, true, false}
-use mathlib.Core.List.{List, [], _∷_, _++_, append-nil}
+use mathlib.Core.List.{List, [], _∷_, _++_}
 use borrow.Author.Tests.{le-leb, lt-leb, leb-true, leb-false}
 use lib.Dec.{leb}
 use lib.ListN.{length, drop, set, length-append}
@@ -16,27 +16,29 @@ use Rattle.fields.specs.declared.Answer.the-variants.{Size, Refused}
 use Rattle.fields.specs.declared.Field.the-variants as field
 use Rattle.fields.specs.declared.Found.the-variants.{Is}
 use Rattle.fields.specs.declared.Refusal.the-variants.{Room}
-use Rattle.fields.specs.Binary as binary
-use Rattle.fields.specs.Binary.{word}
-use Rattle.fields.specs.Judge.{wide, flaw}
-use Rattle.fields.specs.Run.{Wrote}
-use Rattle.fields.specs.Row.{measuredRow}
+use Rattle.writing.specs.Binary as binary
+use Rattle.fields.specs.Words.{word, wide}
+use Rattle.writing.specs.Judge.{flaw}
+use Rattle.writing.specs.inside.Wrote.{Wrote}
+use Rattle.writing.specs.Row.{measuredRow}
 use Rattle.fields.specs.Shape.{repeated, widths, rowWidth}
-use Rattle.fields.specs.Write.{left, stored}
-use Rattle.fields.proofs.PutLaws.{allFields}
-use Rattle.fields.proofs.TableLaws.{strings}
-use Rattle.fields.proofs.WroteLaws.{then, same-size}
-use Rattle.writing.specs.Seen.{within, Rights}
+use Rattle.fields.specs.Answers.{left}
+use Rattle.writing.specs.Write.{stored}
+use Rattle.writing.proofs.PutLaws.{allFields}
+use Rattle.writing.proofs.TableLaws.{strings}
+use Rattle.writing.proofs.WroteLaws.{then, same-size}
+use Rattle.writing.specs.Sizes.{within}
+use Rattle.writing.specs.inside.Rows.{Rights}
 use Rattle.writing.proofs.GroupLaws.{choice-element, bytes-wrote, number-wrote}
-use Rattle.writing.proofs.RowLaws.{within-fits, within-not, strings-append, rights-first, rights-join, group-strings, Held, row-seen, row-held}
-use Rattle.canonicals.specs.Class.{Choices, choices, Chosen, Lifted, countedBytes, countedSize, liftedSize, LiftTried}
+use Rattle.writing.proofs.RowLaws.{within-fits, within-not, rights-first, rights-join, only-groups, Held, row-known, row-held}
+use Rattle.canonicals.specs.inside.Class.{Choices, choices, Chosen, Lifted, countedBytes, countedSize, liftedSize, LiftTried}
 use Rattle.canonicals.specs.Table.{liftShape, lift}
 use Rattle.canonicals.proofs.ClassLaws.{one, element, choices-rights, rights-choices, number-size, choices-small}
 
-pub lifted-seen : (row pool : List ℕ) {a b c r : ℕ} → length pool ≤ 65536 → length row ≤ 16384 → length row ≡ 4 + word row 3 * 2
+pub lifted-known : (row pool : List ℕ) {a b c r : ℕ} → length pool ≤ 65536 → length row ≤ 16384 → length row ≡ 4 + word row 3 * 2
     → a ≡ length (unsigned (word row 1)) → b ≡ length (unsigned (word row 2)) → c ≡ length (unsigned (word row 3))
     → Chosen (word row 3) (drop 4 row) (2 + a + b + c) r → Lifted row pool × (r ≡ 2 + liftedSize row)
-lifted-seen row pool small short width ea eb ec s =
+lifted-known row pool small short width ea eb ec s =
     (record { small = small; short = short; width = width; right = s .right }, omega (arith, s .size))
 
 -- ---- a lift that is right has its size, and one that has a size is right
@@ -64,13 +66,13 @@ lift-length pool k f t n os =
     rest = strings pool (repeated n one ++ field.Nothing ∷ []) os
 
     same : rest ≡ choices n os
-    same = strings-append pool (repeated n one) (field.Nothing ∷ []) os ∙ append-nil _ ∙ group-strings pool one element (choice-element pool) n os
+    same = only-groups pool one element (choice-element pool) n os
 
 lift-right : (k f t n : ℕ) (os pool : List ℕ) → Lifted (k ∷ f ∷ t ∷ n ∷ os) pool
     → measuredRow (Is liftShape) (k ∷ f ∷ t ∷ n ∷ os) pool ≡ Size (2 + liftedSize (k ∷ f ∷ t ∷ n ∷ os))
 unfolding rowWidth widths wide Rights flaw
 lift-right k f t n os pool h =
-    row-seen liftShape pool (k ∷ f ∷ t ∷ n ∷ os) (h .small) (h .short) (omega (arith, h .width))
+    row-known liftShape pool (k ∷ f ∷ t ∷ n ∷ os) (h .small) (h .short) (omega (arith, h .width))
     (refl, (refl, (refl, (refl, (refl, rights-join pool (repeated n one) (field.Nothing ∷ []) os (choices-rights pool n os (h .right)) (refl, tt))))))
     (sym (lift-length pool k f t n os))
     (omega (arith, number-size f, number-size t, number-size n, choices-small n os, h .short, h .width))

@@ -1,36 +1,30 @@
 -- Each line of the table of canonicals agrees: what its shape writes is what its production says.
-use Prim.Native.Nat.{ℕ, _+_, _*_}
+use Prim.Native.Nat.{ℕ, _+_}
 use mathlib.Core.Path.{_≡_, refl, sym, ap, _∙_}
-use mathlib.Core.List.{List, [], _∷_, _++_, append-assoc, append-nil}
+use mathlib.Core.List.{List, _∷_, _++_, append-nil}
 use lib.ListN.{drop}
 use lib.Seq.{getD-drop, drop-drop}
 use Rattle.numbers.specs.Leb.{unsigned}
 use Rattle.fields.specs.declared.Field.{Field}
 use Rattle.fields.specs.declared.Field.the-variants as field
 use Rattle.fields.specs.declared.Leaf.the-variants.{Fine}
-use Rattle.fields.specs.Binary.{word, canonopt, bytes}
-use Rattle.fields.specs.Judge.{wide}
-use Rattle.fields.specs.Write.{judged, written}
-use Rattle.fields.specs.Table.{elements, vec}
-use Rattle.fields.proofs.TableLaws.{Agrees, All, two-bytes, many-bytes, same-elements}
+use Rattle.fields.specs.Words.{word, wide}
+use Rattle.fields.specs.Shape.{widths}
+use Rattle.writing.specs.Binary.{canonopt, bytes}
+use Rattle.writing.specs.Write.{judged, written}
+use Rattle.writing.specs.Agree.{Agrees, All}
+use Rattle.writing.proofs.GroupLaws.{choice-element}
+use Rattle.writing.proofs.ProductionLaws.{two-bytes, many-bytes, vec-at}
 use Rattle.canonicals.specs.Table.{optioned, opts, table}
 
 -- an index and options, behind a lead and perhaps a byte
 options-agree : (lead : ℕ) (zero : Field) → wide zero ≡ 0 → (pool row : List ℕ) (e m : ℕ) → judged (optioned lead zero) pool row 1 ≡ Fine e m
     → written (optioned lead zero) pool row 1 ≡ lead ∷ (bytes pool zero (drop 1 row) ++ (unsigned (word (drop 1 row) 0) ++ opts (drop 1 (drop 1 row))))
-unfolding wide bytes
+unfolding widths wide bytes
 options-agree lead zero z pool row e m r =
-    many-bytes pool row e m (field.Fixed lead) zero field.Index field.Choice field.Nothing field.Nothing refl z r
-    ∙ ap (λ v. lead ∷ v) (append-assoc (bytes pool zero ws) (unsigned (word ws 0)) _)
-    ∙ ap (λ v. lead ∷ (bytes pool zero ws ++ (unsigned (word ws 0) ++ (unsigned (word ws 1) ++ v))))
-    (append-nil _ ∙ same-elements (word ws 1) 2 _ (λ vs. canonopt (word vs 0) (word vs 1)) (λ vs. append-nil _) (drop 2 ws))
-    ∙ sym (λ i. lead
-    ∷ (bytes pool zero ws
-    ++ (unsigned (word ws 0)
-    ++ (unsigned (getD-drop 1 ws 0 0 i) ++ elements (getD-drop 1 ws 0 0 i) 2 (λ vs. canonopt (word vs 0) (word vs 1)) (drop-drop 1 1 ws i)))))
-  where
-    ws : List ℕ
-    ws = drop 1 row
+    many-bytes pool row e m (field.Fixed lead) zero field.Index field.Choice field.Nothing field.Nothing refl z {w = 2} refl (choice-element pool) r
+    ∙ ap (λ v. lead ∷ (bytes pool zero (drop 1 row) ++ (unsigned (word (drop 1 row) 0) ++ v)))
+    (ap (λ v. unsigned (word row 2) ++ v) (append-nil _) ∙ vec-at row 2 2 (λ vs. canonopt (word vs 0) (word vs 1)) ∙ ap opts (sym (drop-drop 1 1 row)))
 
 pub canonicals-agree : All Agrees table
 unfolding wide bytes

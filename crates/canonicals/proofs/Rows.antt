@@ -3,19 +3,19 @@
 use Prim.Native.Nat.{ℕ, _^_, _<_, _≤_}
 use native.Mathlib.Omega.{arith}
 use mathlib.Core.Path.{_≡_, refl, sym, ap, _∙_}
-use mathlib.Core.Bool.{Bool, true, false}
+use mathlib.Core.Bool.{Bool, true, false, cond}
 use mathlib.Core.List.{List}
 use lib.Dec.{eqb}
 use Rattle.fields.specs.declared.Answer.the-variants.{Size}
 use Rattle.fields.specs.declared.Found.{Found}
 use Rattle.fields.specs.declared.Found.the-variants.{Is}
-use Rattle.fields.specs.Binary.{pick, word}
-use Rattle.fields.specs.Judge.{wide}
-use Rattle.fields.specs.Row.{measuredRow}
+use Rattle.fields.specs.Words.{word, wide}
+use Rattle.writing.specs.Row.{measuredRow}
 use Rattle.fields.specs.Shape.{group, widths}
 use Rattle.fields.specs.Table.{shapeIn}
-use Rattle.fields.proofs.TableRows.{Row, every, row-of}
-use Rattle.fields.proofs.WholeLaws.{accepted, never-too-big}
+use Rattle.writing.specs.Agree.{Row}
+use Rattle.writing.proofs.TableRows.{every, row-of}
+use Rattle.writing.proofs.WholeLaws.{accepted, never-too-big}
 use Rattle.canonicals.specs.Table.{table, liftShape}
 use Rattle.canonicals.specs.Write.{measuredCanonical}
 use Rattle.canonicals.proofs.Productions.{canonicals-agree}
@@ -34,6 +34,6 @@ below-32-bits row pool size e = go (eqb (word row 0) 256) e
         let s : a .shape ≡ liftShape = cc in
         never-too-big (a .sized) (λ c. rw s (omega arith))
 
-    go : (b : Bool) → measuredRow (pick b (Is liftShape) (shapeIn table (word row 0))) row pool ≡ Size size → size < 2 ^ 32
+    go : (b : Bool) → measuredRow (cond b (Is liftShape) (shapeIn table (word row 0))) row pool ≡ Size size → size < 2 ^ 32
     go true e = lifted (Is liftShape) refl e
     go false e = canonical-row row pool size e .below-32-bits

@@ -1,3 +1,3 @@
-pub mod Class
 pub mod Table
 pub mod Write
+pub mod inside

@@ -7,7 +7,8 @@ use Rattle.numbers.specs.Leb.{unsigned}
 use Rattle.fields.specs.declared.Field.{Field}
 use Rattle.fields.specs.declared.Field.the-variants as field
 use Rattle.fields.specs.declared.Shape.{Shape}
-use Rattle.fields.specs.Binary.{word, flag, representation, canonopt}
+use Rattle.fields.specs.Words.{word}
+use Rattle.writing.specs.Binary.{flag, representation, canonopt}
 use Rattle.fields.specs.Table.{Line, line, twoOf, manyOf, vec}
 
 -- behind a lead: two fields; a byte 00 and a field; a byte 00 or none, an index and options

@@ -9,11 +9,12 @@ use fields::Shape;
 ghost use Prim.Native.Nat.{_%_};
 ghost use mathlib.Core.Path.{_≡_};
 ghost use lib.ListN.{drop};
-ghost use Rattle.fields.specs.Row.{measuredRow, writeRow};
+ghost use Rattle.writing.specs.Row.{measuredRow, writeRow};
 ghost use Rattle.fields.specs.Table.{shapeIn};
-ghost use Rattle.fields.specs.Write.{left, stored};
+ghost use Rattle.fields.specs.Answers.{left};
+ghost use Rattle.writing.specs.Write.{stored};
 ghost use Rattle.canonicals.specs.Table.{plain, zeroed, optioned, table, liftShape, lift};
-ghost use Rattle.canonicals.specs.Class.{shapeFor};
+ghost use Rattle.canonicals.specs.inside.Class.{shapeFor};
 ghost use Rattle.canonicals.specs.Write.{measuredCanonical, writeCanonical};
 
 // What a canonical other than lift has behind its lead.
@@ -208,21 +209,21 @@ pub fn measure(row: &[u32], pool: &[u8]) -> Answer
         if 0 < lifted {
             return Answer::Size(lifted);
         }
-        return fields::measure_row(Found::Is(lift_shape()), row, pool);
+        return writing::measure_row(Found::Is(lift_shape()), row, pool);
     }
     let class = class_of(kind);
     let size = straight::class_size(class, row, pool);
     if 0 < size {
         return Answer::Size(size);
     }
-    fields::measure_row(line_of(class, (kind % 256) as u8), row, pool)
+    writing::measure_row(line_of(class, (kind % 256) as u8), row, pool)
 }
 
 // A lift judged by the walk, and put where there is room.
 fn write_lift(row: &[u32], pool: &[u8], out: &mut [u8], at: usize) -> Answer
     ensures { λ r. ⌜ left r (now (out .exit)) ≡ stored (measuredRow (Found.Is liftShape) (now (row .entry)) (now (pool .entry))) (lift (drop 1 (now (row .entry)))) (now (out .entry)) at ⌝ }
 {
-    match fields::measure_row(Found::Is(lift_shape()), row, pool) {
+    match writing::measure_row(Found::Is(lift_shape()), row, pool) {
         Answer::Size(lifted) => {
             if writing::fits(lifted, at, out.len()) {
                 straight::put_lift(row, out, at);
@@ -238,7 +239,7 @@ fn write_lift(row: &[u32], pool: &[u8], out: &mut [u8], at: usize) -> Answer
 fn write_line(class: Class, lead: u8, row: &[u32], pool: &[u8], out: &mut [u8], at: usize) -> Answer
     ensures { λ r. ⌜ left r (now (out .exit)) ≡ writeRow (shapeFor class lead) (now (row .entry)) (now (pool .entry)) (now (out .entry)) at ⌝ }
 {
-    match fields::measure_row(line_of(class, lead), row, pool) {
+    match writing::measure_row(line_of(class, lead), row, pool) {
         Answer::Size(size) => {
             if writing::fits(size, at, out.len()) {
                 straight::put_class(class, lead, row, out, at);

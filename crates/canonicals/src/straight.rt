@@ -1,6 +1,8 @@
 // Straight code by class, and for a lift: the size of a row, 0 where not all of it is seen to be right; a row that is right put where
 // there is room; and both, of which 0 leaves it to the walk to say whether the row is right.
 use crate::Class;
+use fields::POOL_BYTES;
+use fields::ROW_WORDS;
 use fields::is_indexed;
 ghost use Prim.Native.Nat.{ℕ, _<_, _≤_, _+_, _*_};
 ghost use mathlib.Core.List.{_∷_, []};
@@ -8,14 +10,16 @@ ghost use mathlib.Core.Path.{_≡_};
 ghost use lib.ListN.{length, drop};
 ghost use lib.Seq.{sets};
 ghost use Rattle.fields.specs.declared.Flaw.the-variants.{Right};
-ghost use Rattle.fields.specs.Binary.{word, flag, representation, canonopt};
-ghost use Rattle.fields.specs.Judge.{choice};
+ghost use Rattle.fields.specs.Words.{word};
+ghost use Rattle.writing.specs.Binary.{flag, representation, canonopt};
+ghost use Rattle.writing.specs.Judge.{choice};
 ghost use Rattle.fields.specs.declared.Answer.the-variants.{Size};
-ghost use Rattle.fields.specs.Row.{measuredRow};
-ghost use Rattle.fields.specs.Run.{Wrote};
-ghost use Rattle.writing.specs.Seen.{Tried};
-ghost use Rattle.canonicals.specs.Class.{shapeFor, Choices, choices, Chosen, Optioned, optionedBytes, optionedSize, Good, bytesFor, sizeFor, Seen, Put, Lifted, countedBytes, countedSize, liftedSize, LiftTried};
+ghost use Rattle.writing.specs.Row.{measuredRow};
+ghost use Rattle.writing.specs.inside.Wrote.{Wrote};
+ghost use Rattle.writing.specs.inside.Rows.{Tried};
+ghost use Rattle.canonicals.specs.inside.Class.{shapeFor, Choices, choices, Chosen, Optioned, optionedBytes, optionedSize, Good, bytesFor, sizeFor, Known, Put, Lifted, countedBytes, countedSize, liftedSize, LiftTried};
 ghost use Rattle.canonicals.specs.Table.{lift};
+ghost use Rattle.fields.specs.Limits.{rowWords};
 
 fn flag_byte(x: u32) -> u8
     ensures { λ r. ⌜ r ≡ flag x ⌝ }
@@ -31,7 +35,7 @@ fn rep_byte(x: u32) -> u8
 
 // A lead alone.
 fn nothing_size(row: &[u32]) -> usize
-    ensures { λ r. ⌜ (0 < r → Seen Class.Nothing (now (row .entry)) r) ⌝ }
+    ensures { λ r. ⌜ (0 < r → Known Class.Nothing (now (row .entry)) r) ⌝ }
 {
     if row.len() == 1 { 1 } else { 0 }
 }
@@ -56,7 +60,7 @@ fn nothing_row(lead: u8, row: &[u32], out: &mut [u8], at: usize) -> usize
 
 // A lead and a byte 00.
 fn zero_size(row: &[u32]) -> usize
-    ensures { λ r. ⌜ (0 < r → Seen Class.Zero (now (row .entry)) r) ⌝ }
+    ensures { λ r. ⌜ (0 < r → Known Class.Zero (now (row .entry)) r) ⌝ }
 {
     if row.len() == 1 { 2 } else { 0 }
 }
@@ -82,7 +86,7 @@ fn zero_row(lead: u8, row: &[u32], out: &mut [u8], at: usize) -> usize
 
 // An index.
 fn index_size(row: &[u32]) -> usize
-    ensures { λ r. ⌜ (0 < r → Seen Class.Index (now (row .entry)) r) ⌝ }
+    ensures { λ r. ⌜ (0 < r → Known Class.Index (now (row .entry)) r) ⌝ }
 {
     if row.len() == 2 {
         return 1 + numbers::unsigned_size(row[1]);
@@ -111,7 +115,7 @@ fn index_row(lead: u8, row: &[u32], out: &mut [u8], at: usize) -> usize
 
 // A byte 00 and an index.
 fn zero_index_size(row: &[u32]) -> usize
-    ensures { λ r. ⌜ (0 < r → Seen Class.ZeroIndex (now (row .entry)) r) ⌝ }
+    ensures { λ r. ⌜ (0 < r → Known Class.ZeroIndex (now (row .entry)) r) ⌝ }
 {
     if row.len() == 2 {
         return 2 + numbers::unsigned_size(row[1]);
@@ -141,7 +145,7 @@ fn zero_index_row(lead: u8, row: &[u32], out: &mut [u8], at: usize) -> usize
 
 // Two indices.
 fn indices_size(row: &[u32]) -> usize
-    ensures { λ r. ⌜ (0 < r → Seen Class.Indices (now (row .entry)) r) ⌝ }
+    ensures { λ r. ⌜ (0 < r → Known Class.Indices (now (row .entry)) r) ⌝ }
 {
     if row.len() == 3 {
         return 1 + numbers::unsigned_size(row[1]) + numbers::unsigned_size(row[2]);
@@ -172,7 +176,7 @@ fn indices_row(lead: u8, row: &[u32], out: &mut [u8], at: usize) -> usize
 
 // A flag.
 fn flag_size(row: &[u32]) -> usize
-    ensures { λ r. ⌜ (0 < r → Seen Class.Flag (now (row .entry)) r) ⌝ }
+    ensures { λ r. ⌜ (0 < r → Known Class.Flag (now (row .entry)) r) ⌝ }
 {
     if row.len() == 2 {
         if row[1] < 2 {
@@ -203,7 +207,7 @@ fn flag_row(lead: u8, row: &[u32], out: &mut [u8], at: usize) -> usize
 
 // An index and a flag.
 fn index_flag_size(row: &[u32]) -> usize
-    ensures { λ r. ⌜ (0 < r → Seen Class.IndexFlag (now (row .entry)) r) ⌝ }
+    ensures { λ r. ⌜ (0 < r → Known Class.IndexFlag (now (row .entry)) r) ⌝ }
 {
     if row.len() == 3 {
         if row[2] < 2 {
@@ -236,7 +240,7 @@ fn index_flag_row(lead: u8, row: &[u32], out: &mut [u8], at: usize) -> usize
 
 // A representation and an index.
 fn rep_index_size(row: &[u32]) -> usize
-    ensures { λ r. ⌜ (0 < r → Seen Class.RepIndex (now (row .entry)) r) ⌝ }
+    ensures { λ r. ⌜ (0 < r → Known Class.RepIndex (now (row .entry)) r) ⌝ }
 {
     if row.len() == 3 {
         if row[1] < 2 {
@@ -296,7 +300,7 @@ fn put_option(k: u32, x: u32, out: &mut [u8], to: usize) -> usize
 
 // `base` and the bytes of n options, whose words stand from `from` on; 0 where one is not right.
 fn options_size(row: &[u32], from: usize, n: usize, base: usize) -> usize
-    requires { ⌜ (from + n * 2 ≤ length (now row)) × (length (now row) ≤ 16384) × (base ≤ 32) ⌝ }
+    requires { ⌜ (from + n * 2 ≤ length (now row)) × (length (now row) ≤ rowWords) × (base ≤ 32) ⌝ }
     ensures { λ r. ⌜ (0 < r → Chosen n (drop from (now (row .entry))) base r) ⌝ }
 {
     let mut at = from;
@@ -337,7 +341,7 @@ fn optioned_size(row: &[u32], head: usize) -> usize
     if row.len() < 3 {
         return 0;
     }
-    if 16384 < row.len() {
+    if ROW_WORDS < row.len() {
         return 0;
     }
     let n = row[2] as usize;
@@ -402,7 +406,7 @@ fn zero_options_row(lead: u8, row: &[u32], out: &mut [u8], at: usize) -> usize
 pub fn class_size(class: Class, row: &[u32], pool: &[u8]) -> usize
     ensures { λ r. ⌜ (0 < r → (lead : ℕ) → measuredRow (shapeFor class lead) (now (row .entry)) (now (pool .entry)) ≡ Size r) ⌝ }
 {
-    if 65536 < pool.len() {
+    if POOL_BYTES < pool.len() {
         return 0;
     }
     match class {
@@ -451,7 +455,7 @@ pub fn write_class(
 ) -> usize
     ensures { λ r. ⌜ Tried (shapeFor class lead) (now (row .entry)) (now (pool .entry)) (now (out .entry)) at r (now (out .exit)) ⌝ }
 {
-    if 65536 < pool.len() {
+    if POOL_BYTES < pool.len() {
         return 0;
     }
     match class {
@@ -476,10 +480,10 @@ pub fn lift_size(row: &[u32], pool: &[u8]) -> usize
     if row.len() < 4 {
         return 0;
     }
-    if 16384 < row.len() {
+    if ROW_WORDS < row.len() {
         return 0;
     }
-    if 65536 < pool.len() {
+    if POOL_BYTES < pool.len() {
         return 0;
     }
     let n = row[3] as usize;

@@ -5,7 +5,7 @@ use native.Mathlib.Omega.{arith}
 use mathlib.Core.Path.{_≡_, refl, sym, _∙_, ap, subst}
 use mathlib.Core.Logic.{∥∥₁-elim}
 use mathlib.Core.HLevel.{⊥-prop}
-use mathlib.Core.Bool.{Bool, true, false}
+use mathlib.Core.Bool.{Bool, true, false, cond}
 use mathlib.Core.List.{List, [], _∷_}
 use borrow.Author.Tests.{leb-true}
 use lib.Dec.{ltb, leb}
@@ -24,19 +24,21 @@ use Rattle.fields.specs.declared.Answer.the-variants.{Size, Refused}
 use Rattle.fields.specs.declared.Read.the-variants as read
 use Rattle.fields.specs.declared.Refusal.{Refusal}
 use Rattle.fields.specs.declared.Refusal.the-variants as refusal
-use Rattle.fields.specs.Binary.{pick, name, primvaltype, flag, slotAt, slotsAt, slots, externname, externdesc, bytes}
-use Rattle.fields.specs.Fill.{primitive, fillName, fillExtern, fillSlots, fillSlot, fillReference, fill}
-use Rattle.fields.specs.Judge.{wide, named, optionalName, reference, flaw, judge}
-use Rattle.fields.specs.Read.{LeftRow, leftRow, roomed, readItem}
-use Rattle.fields.specs.Row.{measuredRow, rowBytes, writeRow}
-use Rattle.fields.specs.Scan.{scanIndex, scanName, scanPrimitive, headScan, firstScan, secondScan, scanExtern, slotScan, endScan, scanReference, scan}
+use Rattle.writing.specs.Binary.{name, primvaltype, flag, slotAt, slotsAt, slots, externname, externdesc, bytes}
+use Rattle.reading.specs.Fill.{primitive, fillName, fillExtern, fillSlots, fillSlot, fillReference, fill}
+use Rattle.fields.specs.Words.{wide}
+use Rattle.writing.specs.Judge.{named, optionalName, reference, flaw, judge}
+use Rattle.fields.specs.Answers.{LeftRow, leftRow, numberOfRefusal, numberOf, Left, left, refuse}
+use Rattle.reading.specs.Read.{roomed, readItem}
+use Rattle.writing.specs.Row.{measuredRow, rowBytes, writeRow}
+use Rattle.reading.specs.Scan.{scanIndex, scanName, scanPrimitive, headScan, firstScan, secondScan, scanExtern, slotScan, endScan, scanReference, scan}
 use Rattle.fields.specs.Shape.{seq, widths, rowWidth}
 use Rattle.fields.specs.Table.{shapeIn}
 use Rattle.fields.specs.Walk.{walk, outs}
-use Rattle.fields.specs.Write.{numberOfRefusal, numberOf, Left, left, refuse, sized, measured, stored}
-use Rattle.types.specs.Read.{kindIn, kindOf, leadGrade, readType}
+use Rattle.writing.specs.Write.{sized, measured, stored}
+use Rattle.items.specs.ReadType.{kindIn, kindOf, leadGrade, readType}
 use Rattle.types.specs.Write.{measuredType, writeType}
-use Rattle.imports.specs.Read.{readImport}
+use Rattle.items.specs.ReadImport.{readImport}
 use Rattle.imports.specs.Write.{writeImport}
 use Rattle.canonicals.specs.Write.{canonicalBytes, measuredCanonical, writeCanonical}
 use Rattle.sections.specs.declared.Phase.the-variants.{Closed}
@@ -266,7 +268,7 @@ refusing : {count n : ℕ} {w : Refusal} {out : List ℕ} → Counts count (refu
 unfolding numberOf
 refusing {w = w} = record { right = λ e. absurd (refused w e) }
 
-either : {count : ℕ} (b : Bool) {x y : Left} → Counts count x → Counts count y → Counts count (pick b x y)
+either : {count : ℕ} (b : Bool) {x y : Left} → Counts count x → Counts count y → Counts count (cond b x y)
 either true h k = h
 either false h k = k
 
@@ -283,7 +285,7 @@ finish-counts s body out few small =
     whole = framed (s .family) size (s .count) (take (s .used) body)
 
     fits : (b : Bool) → leb (0 + length whole) (length out) ≡ b
-        → Counts (s .count) (pick b (left (Size (length whole)) (sets out 0 whole)) (refuse refusal.Room (length whole) out))
+        → Counts (s .count) (cond b (left (Size (length whole)) (sets out 0 whole)) (refuse refusal.Room (length whole) out))
     fits true e =
         let short : length (take (s .used) body) ≤ s .used = rw (length-take (s .used) body) (min-le-left (s .used) (length body)) in
         let one = ap length (one-byte 128 (s .count) few) in

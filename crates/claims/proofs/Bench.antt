@@ -1,27 +1,29 @@
 -- Each item of the bench is written as its bytes, and each reading is refused as it says, by computation.
 use Prim.Native.Nat.{ℕ}
 use mathlib.Core.Path.{_≡_, refl}
-use mathlib.Core.Bool.{Bool, true, false}
+use mathlib.Core.Bool.{Bool, true, false, cond}
 use mathlib.Core.List.{List, [], _∷_}
 use lib.ListN.{length}
 use Rattle.numbers.specs.Leb.{bytesOf, takeIn, within32, numberIn, more}
 use Rattle.numbers.specs.Text.{text, rest, step}
 use Rattle.fields.specs.declared.Answer.the-variants.{Size}
 use Rattle.fields.specs.declared.Read.the-variants as read
-use Rattle.fields.specs.Binary.{pick, name, primvaltype, valtype, optional, resultlist, functype, flag, slotAt, slotsAt, slots, externname, typebound, externdesc, bytes}
-use Rattle.fields.specs.Fill.{primitive, fillValue, fillName, fill}
-use Rattle.fields.specs.Judge.{wide, value, optionalValue, named, optionalName, reference, flaw, judge}
-use Rattle.fields.specs.Read.{leftRow, roomed, readItem}
-use Rattle.fields.specs.Row.{measuredRow, rowBytes, writeRow}
-use Rattle.fields.specs.Scan.{scanIndex, scanName, scanPrimitive, scanValue, headScan, firstScan, secondScan, scanExtern, scan}
+use Rattle.writing.specs.Binary.{name, primvaltype, valtype, optional, resultlist, functype, flag, slotAt, slotsAt, slots, externname, typebound, externdesc, bytes}
+use Rattle.reading.specs.Fill.{primitive, fillValue, fillName, fill}
+use Rattle.fields.specs.Words.{wide}
+use Rattle.writing.specs.Judge.{value, optionalValue, named, optionalName, reference, flaw, judge}
+use Rattle.fields.specs.Answers.{leftRow, left}
+use Rattle.reading.specs.Read.{roomed, readItem}
+use Rattle.writing.specs.Row.{measuredRow, rowBytes, writeRow}
+use Rattle.reading.specs.Scan.{scanIndex, scanName, scanPrimitive, scanValue, headScan, firstScan, secondScan, scanExtern, scan}
 use Rattle.fields.specs.Shape.{repeated, seq, widths, rowWidth}
 use Rattle.fields.specs.Table.{shapeIn}
 use Rattle.fields.specs.View.{view}
 use Rattle.fields.specs.Walk.{walk, outs}
-use Rattle.fields.specs.Write.{left, sized, measured, stored}
-use Rattle.types.specs.Read.{kindIn, kindOf, leadGrade, readType}
+use Rattle.writing.specs.Write.{sized, measured, stored}
+use Rattle.items.specs.ReadType.{kindIn, kindOf, leadGrade, readType}
 use Rattle.types.specs.Write.{writeType}
-use Rattle.imports.specs.Read.{readImport}
+use Rattle.items.specs.ReadImport.{readImport}
 use Rattle.imports.specs.Write.{writeImport}
 use Rattle.claims.specs.Bench.{Item, Reading, Line, Written, Refused, bench}
 
@@ -33,14 +35,14 @@ blank (b ∷ bs) = 0 ∷ blank bs
 -- the writer of the item's family puts exactly the bytes into a buffer of their size
 abbrev pub AsWritten : Item → Type 0
 AsWritten i =
-    pick (i .import) (writeImport (i .row) (i .pool) (blank (i .bytes)) 0) (writeType (i .row) (i .pool) (blank (i .bytes)) 0)
+    cond (i .import) (writeImport (i .row) (i .pool) (blank (i .bytes)) 0) (writeType (i .row) (i .pool) (blank (i .bytes)) 0)
     ≡ left (Size (length (i .bytes))) (i .bytes)
 
 -- the reader of the family says the number and the place, and leaves every row as it was
 abbrev pub AsRefused : Reading → Type 0
 AsRefused r =
     (room : List ℕ)
-    → pick (r .import) (readImport (r .grade) (r .bytes) room) (readType (r .grade) (r .bytes) room) ≡ leftRow (read.Refused (r .why) (r .place)) room
+    → cond (r .import) (readImport (r .grade) (r .bytes) room) (readType (r .grade) (r .bytes) room) ≡ leftRow (read.Refused (r .why) (r .place)) room
 
 abbrev pub All : List Line → Type 0
 All [] = Unit {0}

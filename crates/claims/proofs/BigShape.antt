@@ -13,14 +13,15 @@ use Rattle.fields.specs.declared.Found.the-variants.{Is}
 use Rattle.fields.specs.declared.Leaf.the-variants.{Fine}
 use Rattle.fields.specs.declared.Refusal.the-variants as refusal
 use Rattle.fields.specs.declared.Shape.{Shape}
-use Rattle.fields.specs.Binary.{bytes}
-use Rattle.fields.specs.Judge.{wide, flaw, judge}
-use Rattle.fields.specs.Row.{measuredRow}
+use Rattle.writing.specs.Binary.{bytes}
+use Rattle.fields.specs.Words.{wide}
+use Rattle.writing.specs.Judge.{flaw, judge}
+use Rattle.writing.specs.Row.{measuredRow}
 use Rattle.fields.specs.Shape.{group, closing, repeated, seq, widths, rowWidth}
 use Rattle.fields.specs.Table.{manyOf}
 use Rattle.fields.specs.View.{view}
 use Rattle.fields.specs.Walk.{end, walk}
-use Rattle.fields.specs.Write.{writer, judged, sized, measured}
+use Rattle.writing.specs.Write.{writer, judged, sized, measured}
 
 -- a count, and as many bytes 00
 abbrev pub bytesShape : Shape

@@ -1,10 +1,10 @@
 -- The proof of `specs/Demand2.antt`: what an accepted row is written as, and a finished section, and a sheet.
-use Prim.Native.Nat.{ℕ, zero, suc, _+_, _%_, _/_, _^_, _≤_, _<_}
+use Prim.Native.Nat.{ℕ, _+_, _^_, _≤_, _<_}
 use native.Mathlib.Omega.{arith}
 use mathlib.Core.Path.{_≡_, refl, sym, ap, _∙_, subst}
 use mathlib.Core.Bool.{Bool, true, false, cond}
-use mathlib.Core.List.{List, [], _∷_, _++_, append-nil}
-use borrow.Author.Tests.{ltb-true, le-ltb, eqb-true, eq-eqb}
+use mathlib.Core.List.{List, [], _∷_, _++_}
+use borrow.Author.Tests.{le-ltb, eqb-true, eq-eqb}
 use lib.Dec.{eqb, ltb, leb}
 use lib.ListN.{length, take, drop}
 use lib.Seq.{sets}
@@ -20,19 +20,22 @@ use Rattle.fields.specs.declared.Leaf.{Leaf}
 use Rattle.fields.specs.declared.Leaf.the-variants.{Fine, Bad}
 use Rattle.fields.specs.declared.Refusal.{Refusal}
 use Rattle.fields.specs.declared.Refusal.the-variants as refusal
-use Rattle.fields.specs.Binary.{pick, word, Words, canonopt, bytes}
-use Rattle.fields.specs.Judge.{wide}
-use Rattle.fields.specs.Row.{measuredRow, rowBytes}
-use Rattle.fields.specs.Shape.{plan, repeated, widths, rowWidth}
-use Rattle.fields.specs.Table.{Line, line, shapeIn, elements}
+use Rattle.fields.specs.Words.{word, Words, wide}
+use Rattle.writing.specs.Binary.{canonopt, bytes}
+use Rattle.writing.specs.Row.{measuredRow, rowBytes}
+use Rattle.fields.specs.Shape.{plan, widths, rowWidth}
+use Rattle.fields.specs.Table.{Line, line, shapeIn}
 use Rattle.fields.specs.Walk.{outs}
-use Rattle.fields.specs.Write as shapes
-use Rattle.fields.specs.Write.{Left, left, refuse, writer, stored}
-use Rattle.fields.proofs.AnswerLaws.{Sized}
-use Rattle.fields.proofs.ByteLaws.{ByteList, none, some, append-bytes, to-bytes, of-bytes}
-use Rattle.fields.proofs.TableLaws.{strings, written-right, group-bytes, same-elements}
-use Rattle.fields.proofs.TableRows.{every, row-of}
-use Rattle.fields.proofs.WholeLaws.{accepted}
+use Rattle.writing.specs.Write as shapes
+use Rattle.fields.specs.Answers.{Left, left, refuse}
+use Rattle.writing.specs.Write.{writer, stored}
+use Rattle.writing.proofs.AnswerLaws.{Sized}
+use Rattle.writing.proofs.ByteLaws.{ByteList, none, some, append-bytes, to-bytes, of-bytes}
+use Rattle.writing.proofs.GroupLaws.{choice-element}
+use Rattle.writing.proofs.RowLaws.{only-groups}
+use Rattle.writing.proofs.TableLaws.{strings, written-right}
+use Rattle.writing.proofs.TableRows.{every, row-of}
+use Rattle.writing.proofs.WholeLaws.{accepted}
 use Rattle.types.specs.Write as typeWrite
 use Rattle.types.specs.Write.{measuredType}
 use Rattle.types.proofs.Rows.{type-row}
@@ -47,41 +50,47 @@ use Rattle.sections.specs.declared.Phase.the-variants.{Closed}
 use Rattle.sections.specs.declared.Section.{Section}
 use Rattle.sections.specs.declared.Turned.{Turned}
 use Rattle.sections.specs.Finish.{framed, framing, finishing}
-use Rattle.sections.specs.Runs.{Row, turn, runs, Accepted, AllAccepted, Entry, rows}
+use Rattle.sections.specs.Runs.{Row, turn, runs, Accepted, AllAccepted, Entry, rows, allBytes}
 use Rattle.sections.specs.Section.{fresh, knownFamily, opened, sounds, measuredFamily, familyBytes, writeFamily}
 use Rattle.sections.specs.Steps.{turned, gives, wrote, rowing}
-use Rattle.sections.proofs.BegunFresh.{allBytes, begun-fresh}
+use Rattle.sections.proofs.BegunFresh.{begun-fresh}
 use Rattle.sections.proofs.FamilyLaws.{family-stored, family-size}
 use Rattle.sections.proofs.TurnLaws.{accepted-size, accepted-grows, row-turns}
 use Rattle.sheets.specs.Frame as frame
-use Rattle.sheets.specs.Frame.{Rows, Are, Broken}
+use Rattle.sheets.specs.Frame.{Rows, Are, Broken, listed}
 use Rattle.sheets.specs.Sheet as sheet
 use Rattle.sheets.specs.Sheet.{familyOf, tried, tries, joined, ofRows, sheeted}
-use Rattle.sheets.specs.Steps.{listed}
 use Rattle.sheets.proofs.FamilyLaws.{family-written}
 use Rattle.claims.specs.Valid.{Family, types, canonicals, imports, Takes, Valid, production, productions, section, beside, entries}
 use Rattle.claims.specs.Demand2.{AllValid, AllWords, Made, Demand2}
 use Rattle.claims.proofs.Production.{family-production}
+use Rattle.numbers.proofs.Impossible.{impossible}
+use Rattle.types.proofs.Productions.{types-agree}
+use Rattle.imports.proofs.Productions.{imports-agree}
+use Rattle.canonicals.proofs.Productions.{canonicals-agree}
 
 -- a refusal is no size
 no-size : {X : Type 0} {w : Refusal} {n size : ℕ} → Refused w n ≡ Size size → X
-no-size e = let z : _≡_ {A = ℕ} 0 1 = cc in absurd (omega arith)
+no-size e = impossible cc
 
 -- ---- a row
 
 -- a row that has a size keeps within the limits, and so does its pool
 within : (family : ℕ) (row pool : List ℕ) (size : ℕ) → measuredFamily family row pool ≡ Size size → (length row ≤ 16384) × (length pool ≤ 65536)
 unfolding measuredFamily measuredType measuredImport measuredCanonical
-within family row pool size e = go (eqb family 7) (eqb family 8) e
+within family row pool size e = go (eqb family 7) (eqb family 8) (eqb family 10) e
   where
     of : (found : Found) → measuredRow found row pool ≡ Size size → (length row ≤ 16384) × (length pool ≤ 65536)
     of found e = let k = accepted found row pool size e .sized in (k .short, k .small)
 
-    go : (a b : Bool) → pick a (measuredType row pool) (pick b (measuredCanonical row pool) (measuredImport row pool)) ≡ Size size
+    go : (a b c : Bool)
+        → cond a (measuredType row pool)
+        (cond b (measuredCanonical row pool) (cond c (measuredImport row pool) (Refused refusal.Limit 0))) ≡ Size size
         → (length row ≤ 16384) × (length pool ≤ 65536)
-    go true b e = of _ e
-    go false true e = of _ e
-    go false false e = of _ e
+    go true b c e = of _ e
+    go false true c e = of _ e
+    go false false true e = of _ e
+    go false false false e = no-size e
 
 -- a fresh section stands over any body
 stands : {family : ℕ} → Family family → (n : ℕ) → sounds (fresh family) n ≡ true
@@ -176,8 +185,8 @@ framing-made family count body out size e = go (ltb 4294967295 (length (unsigned
     bytes = framed family (length (unsigned count) + length body) count body
 
     go : (a b : Bool)
-        → pick a (refuse refusal.TooBig 0 out) (pick b (left (Size (length bytes)) (sets out 0 bytes)) (refuse refusal.Room (length bytes) out)) .answer ≡ Size size
-        → pick a (refuse refusal.TooBig 0 out) (pick b (left (Size (length bytes)) (sets out 0 bytes)) (refuse refusal.Room (length bytes) out))
+        → cond a (refuse refusal.TooBig 0 out) (cond b (left (Size (length bytes)) (sets out 0 bytes)) (refuse refusal.Room (length bytes) out)) .answer ≡ Size size
+        → cond a (refuse refusal.TooBig 0 out) (cond b (left (Size (length bytes)) (sets out 0 bytes)) (refuse refusal.Room (length bytes) out))
         ≡ left (Size (length bytes)) (sets out 0 bytes)
     go true b e = no-size e
     go false true e = refl
@@ -191,8 +200,8 @@ finishing-made s body out size e = go (sounds s (length body)) (opened (s .phase
     frames : Left
     frames = framing (s .family) (s .count) (take (s .used) body) out
 
-    go : (a b : Bool) → pick a (pick b (refuse refusal.Order 0 out) frames) (refuse refusal.Limit 0 out) .answer ≡ Size size
-        → pick a (pick b (refuse refusal.Order 0 out) frames) (refuse refusal.Limit 0 out) ≡ frames
+    go : (a b : Bool) → cond a (cond b (refuse refusal.Order 0 out) frames) (refuse refusal.Limit 0 out) .answer ≡ Size size
+        → cond a (cond b (refuse refusal.Order 0 out) frames) (refuse refusal.Limit 0 out) ≡ frames
     go true true e = no-size e
     go true false e = refl
     go false b e = no-size e
@@ -218,7 +227,7 @@ every-family : (kind : ℕ) → Family (familyOf kind)
 unfolding familyOf
 every-family kind = go (leb 256 kind) (eqb kind 17)
   where
-    go : (a b : Bool) → Family (pick a 8 (pick b 10 7))
+    go : (a b : Bool) → Family (cond a 8 (cond b 10 7))
     go true b = canonicals
     go false true = imports
     go false false = types
@@ -241,10 +250,10 @@ tried-rows {family} f pool room (row ∷ rs) r used last end e =
     go : (a : Answer) → measuredFamily family row pool ≡ a → tried a room used r (λ u. tries family pool room rs (r + 1) u) ≡ Fine last end
         → ((u : ℕ) → tries family pool room rs (r + 1) u ≡ Fine last end → TriedRows family pool rs (r + 1) last)
         → TriedRows family pool (row ∷ rs) r last
-    go (Refused w n) m e ih = let z : _≡_ {A = ℕ} 0 1 = cc in absurd (omega arith)
+    go (Refused w n) m e ih = impossible cc
     go (Size size) m e ih = room-for (leb (used + size) room) e
       where
-        room-for : (b : Bool) → pick b (tries family pool room rs (r + 1) (used + size)) (Bad refusal.Room r) ≡ Fine last end
+        room-for : (b : Bool) → cond b (tries family pool room rs (r + 1) (used + size)) (Bad refusal.Room r) ≡ Fine last end
             → TriedRows family pool (row ∷ rs) r last
         room-for true e =
             let k = ih (used + size) e in
@@ -253,7 +262,7 @@ tried-rows {family} f pool room (row ∷ rs) r used last end e =
               valid = (valid-where-sized f row pool size m, k .valid);
               bytes = λ i. family-production family row pool size m i ++ k .bytes i;
             }
-        room-for false e = let z : _≡_ {A = ℕ} 0 1 = cc in absurd (omega arith)
+        room-for false e = impossible cc
 
 -- a sheet whose answer is a size has its room
 sheet-finished : (family r : ℕ) (bytes body out : List ℕ) (size : ℕ) → sheet.finished family r bytes body out .answer ≡ Size size
@@ -268,7 +277,7 @@ sheet-finished family r bytes body out size e = go (leb (length all) (length out
     whole : sheet.Left
     whole = sheet.left (Size (length all)) (sets body 0 bytes) (sets out 0 all)
 
-    go : (b : Bool) → pick b whole (sheet.refuse refusal.Room r body out) .answer ≡ Size size → pick b whole (sheet.refuse refusal.Room r body out) ≡ whole
+    go : (b : Bool) → cond b whole (sheet.refuse refusal.Room r body out) .answer ≡ Size size → cond b whole (sheet.refuse refusal.Room r body out) ≡ whole
     go true e = refl
     go false e = no-size e
 
@@ -309,8 +318,8 @@ made-sheet input body out size e = go (ltb 65536 (length input)) e
     rest : sheet.Left
     rest = ofRows (frame.framed input) (frame.poolOf input) body out
 
-    go : (b : Bool) → pick b (sheet.refuse refusal.Limit 0 body out) rest .answer ≡ Size size
-        → Made (entries input) body out (pick b (sheet.refuse refusal.Limit 0 body out) rest)
+    go : (b : Bool) → cond b (sheet.refuse refusal.Limit 0 body out) rest .answer ≡ Size size
+        → Made (entries input) body out (cond b (sheet.refuse refusal.Limit 0 body out) rest)
     go true e = no-size e
     go false e = made-rows (frame.framed input) (frame.poolOf input) body out size e
 
@@ -334,8 +343,8 @@ lift-written : (row pool : List ℕ) (size : ℕ) → word row 0 ≡ 256 → mea
 unfolding every shapeIn rowBytes widths wide
 lift-written row pool size k e fw fp =
     let t : eqb (word row 0) 256 ≡ true = eq-eqb _ _ k in
-    let r = row-of lifts ((λ pool row e m r. refl), tt) refl row pool size (ap (λ b. measuredRow (pick b (Is liftShape) Not) row pool) t ∙ e) in
-    of-bytes _ (subst (λ b. Bytes (rowBytes (pick b (Is liftShape) Not) pool row)) t (r .are-bytes fw fp))
+    let r = row-of lifts ((λ pool row e m r. refl), tt) refl row pool size (ap (λ b. measuredRow (cond b (Is liftShape) Not) row pool) t ∙ e) in
+    of-bytes _ (subst (λ b. Bytes (rowBytes (cond b (Is liftShape) Not) pool row)) t (r .are-bytes fw fp))
 
 -- a lift's bytes: the options stand last in what the shape writes, and the other parts are numbers
 lift-behind : (row pool : List ℕ) (size : ℕ) → Sized liftShape row 1 pool size → ByteList (shapes.written liftShape pool row 1)
@@ -346,13 +355,9 @@ lift-behind (l ∷ []) pool size k f = absurd (omega (arith, k .width))
 lift-behind (l ∷ c ∷ []) pool size k f = absurd (omega (arith, k .width))
 lift-behind (l ∷ c ∷ t ∷ []) pool size k f = absurd (omega (arith, k .width))
 lift-behind (l ∷ c ∷ t ∷ n ∷ os) pool size k f =
-    let same : strings pool (repeated n (field.Choice ∷ field.Nothing ∷ []) ++ field.Nothing ∷ []) os
-    ≡ elements n 2 (λ vs. canonopt (word vs 0) (word vs 1)) os =
-    group-bytes pool field.Choice field.Nothing field.Nothing n os ∙ append-nil _
-    ∙ same-elements n 2 _ (λ vs. canonopt (word vs 0) (word vs 1)) (λ vs. append-nil _) os in
+    let same = only-groups pool (field.Choice ∷ field.Nothing ∷ []) (λ vs. canonopt (word vs 0) (word vs 1)) (choice-element pool) n os in
     let whole = written-right liftShape pool (l ∷ c ∷ t ∷ n ∷ os) 1 (k .end) size (k .judges) in
-    let front : List ℕ = 0x00 ∷ 0x00 ∷ (unsigned c ++ (unsigned t ++ [])) in
-    let options = subst ByteList same (back-bytes (unsigned n) (back-bytes front (subst ByteList whole f))) in
+    let options = subst ByteList same (back-bytes (unsigned n) (back-bytes (unsigned t) (back-bytes (0x00 ∷ 0x00 ∷ unsigned c) (subst ByteList whole f)))) in
     some {b = 0x00} (omega arith)
     (some {b = 0x00} (omega arith) (append-bytes (leb-bytes 5 c) (append-bytes (append-bytes (leb-bytes 5 n) options) (leb-bytes 5 t))))
 
@@ -368,19 +373,22 @@ lift-bytes row pool size k e fw fp =
 family-bytes : (family : ℕ) (row pool : List ℕ) (size : ℕ) → measuredFamily family row pool ≡ Size size → Words row → Bytes pool
     → Bytes (familyBytes family pool row)
 unfolding measuredFamily familyBytes measuredCanonical canonicalBytes
-family-bytes family row pool size e fw fp = go (eqb family 7) (eqb family 8) e
+family-bytes family row pool size e fw fp = go (eqb family 7) (eqb family 8) (eqb family 10) e
   where
-    canonical : (b : Bool) → eqb (word row 0) 256 ≡ b → measuredRow (pick b (Is liftShape) (shapeIn canonicalTable.table (word row 0))) row pool ≡ Size size
-        → Bytes (pick b (lift (drop 1 row)) (rowBytes (shapeIn canonicalTable.table (word row 0)) pool row))
+    canonical : (b : Bool) → eqb (word row 0) 256 ≡ b → measuredRow (cond b (Is liftShape) (shapeIn canonicalTable.table (word row 0))) row pool ≡ Size size
+        → Bytes (cond b (lift (drop 1 row)) (rowBytes (shapeIn canonicalTable.table (word row 0)) pool row))
     canonical true t e = to-bytes (lift-bytes row pool size (eqb-true _ _ t) e fw fp)
     canonical false t e = canonical-row row pool size e .are-bytes fw fp
 
-    go : (a b : Bool) → pick a (measuredType row pool) (pick b (measuredCanonical row pool) (measuredImport row pool)) ≡ Size size
-        → Bytes (pick a (rowBytes (typeWrite.shapeOf (word row 0)) pool row)
-        (pick b (canonicalBytes pool row) (rowBytes (importWrite.shapeOf (word row 0)) pool row)))
-    go true b e = type-row row pool size e .are-bytes fw fp
-    go false true e = canonical (eqb (word row 0) 256) refl e
-    go false false e = import-row row pool size e .are-bytes fw fp
+    go : (a b c : Bool)
+        → cond a (measuredType row pool)
+        (cond b (measuredCanonical row pool) (cond c (measuredImport row pool) (Refused refusal.Limit 0))) ≡ Size size
+        → Bytes (cond a (rowBytes (typeWrite.shapeOf (word row 0)) pool row)
+        (cond b (canonicalBytes pool row) (rowBytes (importWrite.shapeOf (word row 0)) pool row)))
+    go true b c e = type-row row pool size e .are-bytes fw fp
+    go false true c e = canonical (eqb (word row 0) 256) refl e
+    go false false true e = import-row row pool size e .are-bytes fw fp
+    go false false false e = no-size e
 
 -- and of a production, which they are
 production-bytes : (family : ℕ) (row pool : List ℕ) → Valid family row pool → Words row → Bytes pool → Bytes (production family pool row)
@@ -408,6 +416,7 @@ framed-bytes {family} f es v w =
 pub demand-2 : Demand2
 demand-2 =
     record {
+      tables-agree = (types-agree, imports-agree, canonicals-agree);
       valid-measured = λ family f row pool body. (sized-where-taken family row pool body, λ z. taken-where-sized f row pool body (z .0) (z .1) (z .2));
       valid-written = λ family f row pool body t. written f row pool body t;
       written-at = λ family f row pool v out at. at-any-place family row pool v out at;

@@ -2,7 +2,7 @@
 use Prim.Native.Nat.{ℕ, _+_, _≤_, _<_, _^_}
 use native.Mathlib.Omega.{arith}
 use mathlib.Core.Path.{_≡_, refl, sym, ap, _∙_, subst}
-use mathlib.Core.Bool.{Bool, true, false}
+use mathlib.Core.Bool.{Bool, true, false, cond}
 use mathlib.Core.List.{List, [], _∷_, _++_}
 use borrow.Author.Tests.{ltb-true, ltb-false}
 use lib.Dec.{eqb, ltb}
@@ -17,35 +17,38 @@ use Rattle.fields.specs.declared.Found.the-variants.{Is, Not}
 use Rattle.fields.specs.declared.Read.the-variants.{Item, Refused}
 use Rattle.fields.specs.declared.Refusal.{Refusal}
 use Rattle.fields.specs.declared.Refusal.the-variants as refusal
-use Rattle.fields.specs.Binary.{pick, word, Words, name, bytes}
-use Rattle.fields.specs.Judge.{named, wide, flaw, judge}
-use Rattle.fields.specs.Mark.{Mark, Clear, At, SameFields}
-use Rattle.fields.specs.Read.{LeftRow, leftRow, readFound, readItem}
-use Rattle.fields.specs.Row.{measuredRow, rowBytes, writeRow}
-use Rattle.fields.specs.Scan.{byte}
+use Rattle.fields.specs.Words.{word, Words, wide}
+use Rattle.writing.specs.Binary.{name, bytes}
+use Rattle.writing.specs.Judge.{named, flaw, judge}
+use Rattle.round_trip.specs.Mark.{Mark, Clear, At, SameFields}
+use Rattle.fields.specs.Answers.{LeftRow, leftRow}
+use Rattle.reading.specs.Read.{readFound, readItem}
+use Rattle.writing.specs.Row.{measuredRow, rowBytes, writeRow}
+use Rattle.reading.specs.Scan.{byte}
 use Rattle.fields.specs.Shape.{repeated, seq, widths, rowWidth}
 use Rattle.fields.specs.Table.{shapeIn}
 use Rattle.fields.specs.View.{Name, view, said}
 use Rattle.fields.specs.Walk.{walk, outs}
-use Rattle.fields.specs.Write.{sized, measured, stored}
-use Rattle.fields.proofs.ItemLaws.{ReadsBack}
-use Rattle.types.specs.Read.{leadGrade, readType, typeMark}
+use Rattle.writing.specs.Write.{sized, measured, stored}
+use Rattle.round_trip.specs.Returned.{ReadsBack}
+use Rattle.items.specs.ReadType.{leadGrade, readType}
+use Rattle.claims.specs.Demand3.{typeMark, importMark, flagsRow, flagsPool, flagsBytes, otherWords, Demand3, Readable, types, imports, reads, SameBy, Same, firstAbove, Marking, ReadBack, Returned}
 use Rattle.types.specs.Table as typeTable
 use Rattle.types.specs.Write as typeWrite
 use Rattle.types.specs.Write.{measuredType, writeType}
-use Rattle.types.proofs.ReadLaws.{type-back, type-only}
+use Rattle.claims.proofs.TypesBack.{type-back, type-only}
 use Rattle.types.proofs.Rows.{type-row}
-use Rattle.imports.specs.Read.{readImport, importMark}
+use Rattle.items.specs.ReadImport.{readImport}
 use Rattle.imports.specs.Table as importTable
 use Rattle.imports.specs.Write as importWrite
 use Rattle.imports.specs.Write.{measuredImport}
-use Rattle.imports.proofs.ReadLaws.{import-back, import-only}
+use Rattle.claims.proofs.ImportsBack.{import-back, import-only}
 use Rattle.imports.proofs.Rows.{import-row}
 use Rattle.sections.specs.Section.{fresh, measuredFamily, familyBytes, writeFamily}
 use Rattle.sections.proofs.TurnLaws.{row-turns, accepted-size}
-use Rattle.claims.specs.Demand3.{flagsRow, flagsPool, flagsBytes, otherWords, Demand3, Readable, types, imports, reads, SameBy, Same, firstAbove, Marking, ReadBack, Returned}
 use Rattle.claims.specs.Valid.{Valid, production}
 use Rattle.claims.proofs.MarkLaws.{tableMarks, of-table, row-mark}
+use Rattle.numbers.proofs.Impossible.{impossible}
 
 -- ---- a valid row has a size, which is the length of its production
 
@@ -66,7 +69,7 @@ valid-measured family f row pool v = valid-size family row pool v ∙ ap (λ bs.
 
 module _ (family : ℕ) (row pool input room : List ℕ) where
   abbrev found : Found
-  found = pick (eqb family 7) (typeWrite.shapeOf (word row 0)) (importWrite.shapeOf (word row 0))
+  found = cond (eqb family 7) (typeWrite.shapeOf (word row 0)) (importWrite.shapeOf (word row 0))
 
   -- what is said of the kind's shape is said of the row
   of-kind : (mk : Mark) (l : LeftRow) → ReadsBack found mk pool row input room (length (production family pool row)) l
@@ -101,8 +104,7 @@ read-back family imports row pool fw v rest room g any top short =
 refused : {w : Refusal} {n q e : ℕ} {row after : List ℕ} {A : Type 0} → leftRow (Refused w n) row ≡ leftRow (Item q e) after → A
 refused {w} {n} {q} {e} r =
     let a : Refused w n ≡ Item q e = ap (λ l. l .answer) r in
-    let z : _≡_ {A = ℕ} 0 1 = cc in
-    absurd (omega arith)
+    impossible cc
 
 -- an item is returned only at a grade, and of an input within the limit
 abbrev Limits : ℕ → List ℕ → Type 0
@@ -114,10 +116,10 @@ unfolding readItem
 item-limits f kind lead g input room after q e r = go (ltb (2 ^ 30) (length input)) (ltb g 1) (ltb 3 g) refl refl refl r
   where
     go : (a b c : Bool) → ltb (2 ^ 30) (length input) ≡ a → ltb g 1 ≡ b → ltb 3 g ≡ c
-        → pick a (leftRow (Refused refusal.Limit 0) room)
-        (pick b (leftRow (Refused refusal.Limit 0) room)
-        (pick c (leftRow (Refused refusal.Limit 0) room)
-        (pick (eqb (length input) 0) (leftRow (Refused refusal.Cut 0) room) (readFound f kind lead g input room)))) ≡ leftRow (Item q e) after
+        → cond a (leftRow (Refused refusal.Limit 0) room)
+        (cond b (leftRow (Refused refusal.Limit 0) room)
+        (cond c (leftRow (Refused refusal.Limit 0) room)
+        (cond (eqb (length input) 0) (leftRow (Refused refusal.Cut 0) room) (readFound f kind lead g input room)))) ≡ leftRow (Item q e) after
         → Limits g input
     go true b c x y z r = refused r
     go false true c x y z r = refused r
@@ -213,8 +215,7 @@ not-the-same = ((λ out at. refl), other)
     other : Same 7 flagsPool flagsRow flagsBytes otherWords → ⊥
     other same =
         let names : Name 1 [] ∷ [] ≡ Name 1 (0x02 ∷ []) ∷ [] = same .says .1 .1 .1 .1 .1 .0 in
-        let z : _≡_ {A = ℕ} 0 1 = cc in
-        absurd (omega arith)
+        impossible cc
 
 pub demand-3 : Demand3
 demand-3 =

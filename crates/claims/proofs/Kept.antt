@@ -9,11 +9,9 @@ use borrow.Author.Tests.{eqb-true}
 use lib.Dec.{eqb, ltb, leb}
 use lib.ListN.{length, getD, take, drop, length-append}
 use lib.Seq.{sets, length-sets}
-use Rattle.numbers.specs.Bytes as bytes
 use Rattle.numbers.specs.Bytes.{store, partOf}
 use Rattle.numbers.specs.Leb.{unsigned, signed}
 use Rattle.numbers.specs.Numbers as numbers
-use Rattle.numbers.specs.declared.bytes.Stored.the-variants as held
 use Rattle.numbers.proofs.BytesLaws.{sets-outside, store-either}
 use Rattle.fields.specs.declared.Answer.{Answer}
 use Rattle.fields.specs.declared.Answer.the-variants.{Size, Refused}
@@ -27,23 +25,24 @@ use Rattle.fields.specs.declared.Read.the-variants as read
 use Rattle.fields.specs.declared.Refusal.{Refusal}
 use Rattle.fields.specs.declared.Refusal.the-variants as refusal
 use Rattle.fields.specs.declared.Shape.{Shape}
-use Rattle.fields.specs.Binary.{pick, word, valtype}
-use Rattle.fields.specs.Fill.{fill}
-use Rattle.fields.specs.Judge.{wide}
-use Rattle.fields.specs.Read.{LeftRow, leftRow, reader, scanned, filled, roomed, readFound, readItem}
-use Rattle.fields.specs.Scan.{scan}
+use Rattle.fields.specs.Words.{word, wide}
+use Rattle.writing.specs.Binary.{valtype}
+use Rattle.reading.specs.Fill.{fill}
+use Rattle.fields.specs.Answers.{LeftRow, leftRow, numberOfRefusal, numberOf, valueOf, left, refuse}
+use Rattle.reading.specs.Read.{reader, scanned, filled, roomed, readFound, readItem}
+use Rattle.reading.specs.Scan.{scan}
 use Rattle.fields.specs.Shape.{plan}
 use Rattle.fields.specs.View.{view}
 use Rattle.fields.specs.Walk.{Plan, end, step, next, took, walk, outs}
-use Rattle.fields.specs.Write.{numberOfRefusal, numberOf, valueOf, Left, left, refuse, measured, written, stored, writeShape}
-use Rattle.fields.proofs.AnswerLaws.{measured-sized}
-use Rattle.fields.proofs.FilledLaws.{fill-length}
-use Rattle.fields.proofs.ScanLaws.{Within, scan-within}
-use Rattle.fields.proofs.WholeLaws.{accepted, size-is-length}
-use Rattle.types.specs.Read.{readType}
+use Rattle.writing.specs.Write.{measured, written, stored, writeShape}
+use Rattle.writing.proofs.AnswerLaws.{measured-sized}
+use Rattle.reading.proofs.FilledLaws.{fill-length}
+use Rattle.reading.proofs.ScanLaws.{Within, scan-within}
+use Rattle.writing.proofs.WholeLaws.{accepted, size-is-length}
+use Rattle.items.specs.ReadType.{readType}
 use Rattle.types.specs.Write as types
 use Rattle.types.specs.Write.{writeType}
-use Rattle.imports.specs.Read.{readImport}
+use Rattle.items.specs.ReadImport.{readImport}
 use Rattle.imports.specs.Write.{writeImport}
 use Rattle.canonicals.specs.Write.{writeCanonical}
 use Rattle.sections.specs.declared.Phase.{Phase}
@@ -57,10 +56,9 @@ use Rattle.sections.specs.Steps.{Turn, turned, refused, taken, withdrawn, async
 use Rattle.sections.proofs.FamilyLaws.{family-stored, family-size}
 use Rattle.sections.proofs.TurnLaws as law
 use Rattle.sections.proofs.TurnLaws.{either, asyncShape, paramsShape, resultShape, shape-turns, row-turns, open-turns}
-use Rattle.sheets.specs.Frame.{Rows, Are, Broken, framed, poolOf}
+use Rattle.sheets.specs.Frame.{Rows, Are, Broken, framed, poolOf, listed}
 use Rattle.sheets.specs.Sheet as sheet
 use Rattle.sheets.specs.Sheet.{familyOf, tries, joined, finished, ofRows, sheeted}
-use Rattle.sheets.specs.Steps.{listed}
 use Rattle.cabi.specs.declared.Given.{Given}
 use Rattle.cabi.specs.declared.Given.the-variants.{Is, Not}
 use Rattle.cabi.specs.Read.{replyOfRead, ofRead}
@@ -69,6 +67,7 @@ use Rattle.cabi.specs.State.{sectionOf, given, startNumber, numbersOf, finishes
 use Rattle.claims.specs.Kept.{Kept, Stores, Writes, numberOfRead, wordsOfRead, Reads, told, Turns, Counts, ChangesNothingElse}
 use Rattle.claims.specs.Valid.{productions, beside, familyIn, entries}
 use Rattle.claims.proofs.Production.{joined-productions}
+use Rattle.numbers.proofs.Impossible.{impossible}
 
 -- ---- any buffer
 
@@ -116,7 +115,7 @@ writes : (a : Answer) (bs out : List ℕ) (at : ℕ) → ((size : ℕ) → a ≡
 unfolding stored numberOf valueOf
 writes (Size m) bs out at long = go (leb (at + m) (length out))
   where
-    go : (b : Bool) → Writes at out (pick b (left (Size m) (sets out at bs)) (refuse refusal.Room m out))
+    go : (b : Bool) → Writes at out (cond b (left (Size m) (sets out at bs)) (refuse refusal.Room m out))
     go true = kept-stored at m bs out (long m refl)
     go false = kept-as-was _ at _ out
 writes (Refused w n) bs out at long = kept-as-was _ at _ out
@@ -182,8 +181,8 @@ reads-roomed (Bad w j) ws row h = kept-as-was _ 0 _ row
 reads-roomed (Fine e q) ws row h = go (ltb 16384 q) (leb q (length row))
   where
     go : (a b : Bool)
-        → Reads row (pick a (leftRow (read.Refused refusal.Room q) row)
-        (pick b (leftRow (read.Item q e) (sets row 0 ws)) (leftRow (read.Refused refusal.Room q) row)))
+        → Reads row (cond a (leftRow (read.Refused refusal.Room q) row)
+        (cond b (leftRow (read.Item q e) (sets row 0 ws)) (leftRow (read.Refused refusal.Room q) row)))
     go true b = kept-as-was _ 0 _ row
     go false true = kept-stored 0 q ws row h
     go false false = kept-as-was _ 0 _ row
@@ -200,10 +199,10 @@ reads-item f kind lead g input row = go (ltb (2 ^ 30) (length input)) (ltb g 1) 
     shaped found.Not = kept-as-was _ 0 _ row
 
     go : (a b c d : Bool)
-        → Reads row (pick a (leftRow (read.Refused refusal.Limit 0) row)
-        (pick b (leftRow (read.Refused refusal.Limit 0) row)
-        (pick c (leftRow (read.Refused refusal.Limit 0) row)
-        (pick d (leftRow (read.Refused refusal.Cut 0) row) (readFound f kind lead g input row)))))
+        → Reads row (cond a (leftRow (read.Refused refusal.Limit 0) row)
+        (cond b (leftRow (read.Refused refusal.Limit 0) row)
+        (cond c (leftRow (read.Refused refusal.Limit 0) row)
+        (cond d (leftRow (read.Refused refusal.Cut 0) row) (readFound f kind lead g input row)))))
     go true b c d = kept-as-was _ 0 _ row
     go false true c d = kept-as-was _ 0 _ row
     go false false true d = kept-as-was _ 0 _ row
@@ -315,7 +314,7 @@ writes-finished s body out = go (sounds s (length body)) (opened (s .phase)) (lt
     long size e = cc
 
     go : (a b c : Bool)
-        → Writes 0 out (pick a (pick b (refuse refusal.Order 0 out) (pick c (refuse refusal.TooBig 0 out) (stored (Size (length bs)) bs out 0)))
+        → Writes 0 out (cond a (cond b (refuse refusal.Order 0 out) (cond c (refuse refusal.TooBig 0 out) (stored (Size (length bs)) bs out 0)))
         (refuse refusal.Limit 0 out))
     go true true c = kept-as-was _ 0 _ out
     go true false true = kept-as-was _ 0 _ out
@@ -341,7 +340,7 @@ module _ (size : ℕ) (body out : List ℕ) where
       whole = sheet.section family r bs
 
       go : (b : Bool)
-          → Sheets size body out (pick b (sheet.left (Size (length whole)) (sets body 0 bs) (sets out 0 whole)) (sheet.refuse refusal.Room r body out))
+          → Sheets size body out (cond b (sheet.left (Size (length whole)) (sets body 0 bs) (sets out 0 whole)) (sheet.refuse refusal.Room r body out))
       go true = record { on-body = kept-stored 0 size bs body e; on-out = kept-stored 0 (length whole) whole out refl }
       go false = sheet-refused refusal.Room r
 
@@ -372,7 +371,7 @@ sheet-leaves input body out = go (ltb 65536 (length input))
   where
     go : (b : Bool)
         → Sheets (length (productions (familyIn (entries input)) (entries input))) body out
-        (pick b (sheet.refuse refusal.Limit 0 body out) (ofRows (framed input) (poolOf input) body out))
+        (cond b (sheet.refuse refusal.Limit 0 body out) (ofRows (framed input) (poolOf input) body out))
     go true = sheet-refused _ body out refusal.Limit 0
     go false = sheet-rows (framed input) (poolOf input) body out
 
@@ -405,19 +404,19 @@ numbers-given x s e =
 
     go : (a b c d f g h : Bool)
         → eqb phase 0 ≡ c → eqb start 0 ≡ d → eqb phase 1 ≡ f → eqb phase 2 ≡ g → eqb phase 3 ≡ h
-        → pick a
-        (pick b
-        (pick c (pick d (section Closed) Not)
-        (pick f (section (Opened start)) (pick g (section (Asynced start)) (pick h (section (Parametered start)) Not)))) Not) Not ≡ Is s
+        → cond a
+        (cond b
+        (cond c (cond d (section Closed) Not)
+        (cond f (section (Opened start)) (cond g (section (Asynced start)) (cond h (section (Parametered start)) Not)))) Not) Not ≡ Is s
         → numbersOf s ≡ getD x 0 0 ∷ getD x 1 0 ∷ getD x 2 0 ∷ phase ∷ start ∷ []
     go true true true true f g h p q r t u e = is Closed e (sym (eqb-true _ _ p)) (sym (eqb-true _ _ q))
-    go true true true false f g h p q r t u e = let z : _≡_ {A = ℕ} 0 1 = cc in absurd (omega arith)
+    go true true true false f g h p q r t u e = impossible cc
     go true true false d true g h p q r t u e = is (Opened start) e (sym (eqb-true _ _ r)) refl
     go true true false d false true h p q r t u e = is (Asynced start) e (sym (eqb-true _ _ t)) refl
     go true true false d false false true p q r t u e = is (Parametered start) e (sym (eqb-true _ _ u)) refl
-    go true true false d false false false p q r t u e = let z : _≡_ {A = ℕ} 0 1 = cc in absurd (omega arith)
-    go true false c d f g h p q r t u e = let z : _≡_ {A = ℕ} 0 1 = cc in absurd (omega arith)
-    go false b c d f g h p q r t u e = let z : _≡_ {A = ℕ} 0 1 = cc in absurd (omega arith)
+    go true true false d false false false p q r t u e = impossible cc
+    go true false c d f g h p q r t u e = impossible cc
+    go false b c d f g h p q r t u e = impossible cc
 
 five : (x : List ℕ) → length x ≡ 5 → getD x 0 0 ∷ getD x 1 0 ∷ getD x 2 0 ∷ getD x 3 0 ∷ getD x 4 0 ∷ [] ≡ x
 five [] e = absurd (omega (arith, e))

@@ -3,6 +3,7 @@ pub mod Bench
 pub mod BigShape
 pub mod Demand2
 pub mod Demand3
+pub mod ImportsBack
 pub mod Kept
 pub mod MarkLaws
 pub mod NumberInputs
@@ -16,3 +17,4 @@ pub mod Steps
 pub mod StepsAccepted
 pub mod StepsAgain
 pub mod StepsOpen
+pub mod TypesBack

@@ -3,7 +3,7 @@ use Prim.Native.Nat.{ℕ, zero, suc, _+_, _≤_, _<_}
 use native.Mathlib.Omega.{arith}
 use mathlib.Core.Path.{_≡_, refl, sym, ap, _∙_, subst}
 use mathlib.Core.Logic.{_⊎_, inl, inr}
-use mathlib.Core.Bool.{Bool, true, false, _&&_}
+use mathlib.Core.Bool.{Bool, true, false, _&&_, cond}
 use mathlib.Core.List.{List, [], _∷_, _++_}
 use borrow.Author.Tests.{ltb-true, leb-true, eqb-true}
 use lib.Dec.{eqb, ltb, leb}
@@ -18,31 +18,33 @@ use Rattle.fields.specs.declared.Found.{Found}
 use Rattle.fields.specs.declared.Found.the-variants.{Is}
 use Rattle.fields.specs.declared.Leaf.the-variants.{Fine}
 use Rattle.fields.specs.declared.Shape.{Shape}
-use Rattle.fields.specs.Binary.{pick, word, name, primvaltype, valtype, optional, resultlist, functype, slots, slotsAt, externname, externdesc, bytes}
-use Rattle.fields.specs.Judge.{wide, flaw, unless, judge}
-use Rattle.fields.specs.Mark.{Mark, Clear, At, asks, primitiveGrade, valueMark, mark, ahead, firstMark, rowMark}
-use Rattle.fields.specs.Row.{measuredRow, rowBytes}
-use Rattle.fields.specs.Scan.{byte}
+use Rattle.fields.specs.Words.{word, wide}
+use Rattle.writing.specs.Binary.{name, primvaltype, valtype, optional, resultlist, functype, slots, slotsAt, externname, externdesc, bytes}
+use Rattle.writing.specs.Judge.{flaw, unless, judge}
+use Rattle.round_trip.specs.Mark.{Mark, Clear, At, asks, primitiveGrade, valueMark, mark, ahead, firstMark, rowMark}
+use Rattle.writing.specs.Row.{measuredRow, rowBytes}
+use Rattle.reading.specs.Scan.{byte}
 use Rattle.fields.specs.Shape.{opening, group, closing, repeated, seq, counts, plan}
 use Rattle.fields.specs.Table.{Line, shapeIn}
 use Rattle.fields.specs.View.{view}
 use Rattle.fields.specs.Walk.{Plan, end, step, next, took, walk, outs}
-use Rattle.fields.specs.Write.{writer, written}
-use Rattle.fields.proofs.Back.{Reaches}
-use Rattle.fields.proofs.WholeLaws.{accepted}
+use Rattle.writing.specs.Write.{writer, written}
+use Rattle.round_trip.proofs.Back.{Reaches}
+use Rattle.writing.proofs.WholeLaws.{accepted}
 use Rattle.claims.specs.Demand3.{markTwo, markThree, Marking}
 use Rattle.claims.specs.Numbers.{Among}
+use Rattle.numbers.proofs.Impossible.{impossible}
 
 -- ---- the test
 
 abbrev among : ℕ → List ℕ → Bool
 among n [] = false
-among n (m ∷ ms) = pick (eqb n m) true (among n ms)
+among n (m ∷ ms) = cond (eqb n m) true (among n ms)
 
 -- b marks the forms of grade n, as far as they are above grade 1
 abbrev marking : ℕ → ℕ → ℕ → Bool
 marking family n b =
-    pick (leb n 1) true (pick (eqb n 2) (among b (markTwo family)) (pick (eqb n 3) (among b (markThree family)) false))
+    cond (leb n 1) true (cond (eqb n 2) (among b (markTwo family)) (cond (eqb n 3) (among b (markThree family)) false))
 
 -- the bytes by which a field is marked are among those
 abbrev pub marks : ℕ → ℕ → Field → Bool
@@ -77,12 +79,12 @@ tableMarks family grade (l ∷ ls) = shapeMarks family (grade (l .kind)) (l .sha
 
 both : (a b : Bool) → (a && b) ≡ true → (a ≡ true) × (b ≡ true)
 both true b e = (refl, e)
-both false b e = let z : _≡_ {A = ℕ} 0 1 = cc in absurd (omega arith)
+both false b e = impossible cc
 
 pub of-table : (family : ℕ) (grade : ℕ → ℕ) (ls : List Line) → tableMarks family grade ls ≡ true → (k : ℕ) (s : Shape) → shapeIn ls k ≡ Is s
     → shapeMarks family (grade k) s ≡ true
 unfolding shapeIn
-of-table family grade [] t k s f = let z : _≡_ {A = ℕ} 0 1 = cc in absurd (omega arith)
+of-table family grade [] t k s f = impossible cc
 of-table family grade (l ∷ ls) t k s f =
     go (eqb k (l .kind)) refl f (both (shapeMarks family (grade (l .kind)) (l .shape)) (tableMarks family grade ls) t .0)
     (of-table family grade ls (both (shapeMarks family (grade (l .kind)) (l .shape)) (tableMarks family grade ls) t .1) k s)
@@ -90,7 +92,7 @@ of-table family grade (l ∷ ls) t k s f =
     here : Bool
     here = shapeMarks family (grade (l .kind)) (l .shape)
 
-    go : (b : Bool) → eqb k (l .kind) ≡ b → pick b (Is (l .shape)) (shapeIn ls k) ≡ Is s → here ≡ true
+    go : (b : Bool) → eqb k (l .kind) ≡ b → cond b (Is (l .shape)) (shapeIn ls k) ≡ Is s → here ≡ true
         → (shapeIn ls k ≡ Is s → shapeMarks family (grade k) s ≡ true) → shapeMarks family (grade k) s ≡ true
     go true e f h ih =
         let q : l .shape ≡ s = cc in
@@ -100,10 +102,10 @@ of-table family grade (l ∷ ls) t k s f =
 -- ---- what it says, of a family at a grade
 
 among-true : (n : ℕ) (ms : List ℕ) → among n ms ≡ true → Among n ms
-among-true n [] e = let z : _≡_ {A = ℕ} 0 1 = cc in absurd (omega arith)
+among-true n [] e = impossible cc
 among-true n (m ∷ ms) e = go (eqb n m) refl e (among-true n ms)
   where
-    go : (b : Bool) → eqb n m ≡ b → pick b true (among n ms) ≡ true → (among n ms ≡ true → Among n ms) → (n ≡ m) ⊎ Among n ms
+    go : (b : Bool) → eqb n m ≡ b → cond b true (among n ms) ≡ true → (among n ms ≡ true → Among n ms) → (n ≡ m) ⊎ Among n ms
     go true t e ih = inl (eqb-true n m t)
     go false t e ih = inr (ih e)
 
@@ -112,12 +114,12 @@ module _ (family lead g : ℕ) (any : 1 ≤ g) where
   is-marking n b e above = go (leb n 1) (eqb n 2) (eqb n 3) refl refl refl e
     where
       go : (x y z : Bool) → leb n 1 ≡ x → eqb n 2 ≡ y → eqb n 3 ≡ z
-          → pick x true (pick y (among b (markTwo family)) (pick z (among b (markThree family)) false)) ≡ true
+          → cond x true (cond y (among b (markTwo family)) (cond z (among b (markThree family)) false)) ≡ true
           → Marking family g b
       go true y z p q r e = let h = leb-true n 1 p in absurd (omega arith)
       go false true z p q r e = let h = eqb-true n 2 q in inl (omega arith, among-true b (markTwo family) e)
       go false false true p q r e = let h = eqb-true n 3 r in inr (omega arith, among-true b (markThree family) e)
-      go false false false p q r e = let z : _≡_ {A = ℕ} 0 1 = cc in absurd (omega arith)
+      go false false false p q r e = impossible cc
 
   -- a marking byte stands at i
   record Stands (bs : List ℕ) (i : ℕ) : Type 0 where
@@ -153,7 +155,7 @@ module _ (family lead g : ℕ) (any : 1 ≤ g) where
   asked : (n j : ℕ) (bs : List ℕ) → (g < n → Stands bs j) → Mine (asks g n j) bs
   asked n j bs h = go (ltb g n) refl
     where
-      go : (b : Bool) → ltb g n ≡ b → Mine (pick b (At j) Clear) bs
+      go : (b : Bool) → ltb g n ≡ b → Mine (cond b (At j) Clear) bs
       go true e = h (ltb-true g n e)
       go false e = tt
 
@@ -168,14 +170,14 @@ module _ (family lead g : ℕ) (any : 1 ≤ g) where
   primitive : (j p : ℕ) (F : ℕ → List ℕ) → (g < 2 → Stands (F 13) j) → Mine (asks g (primitiveGrade p) j) (F p)
   primitive j p F h = go (eqb p 13) refl
     where
-      go : (b : Bool) → eqb p 13 ≡ b → Mine (asks g (pick b 2 1) j) (F p)
+      go : (b : Bool) → eqb p 13 ≡ b → Mine (asks g (cond b 2 1) j) (F p)
       go true e = subst (λ x. Mine (asks g 2 j) (F x)) (sym (eqb-true p 13 e)) (asked 2 j (F 13) h)
       go false e = asked 1 j (F p) (λ l. absurd (omega arith))
 
   value : (j tag x : ℕ) (F : ℕ → ℕ → List ℕ) → (g < 2 → Stands (F 0 13) j) → Mine (valueMark g tag x j) (F tag x)
   value j tag x F h = go (eqb tag 0) refl
     where
-      go : (b : Bool) → eqb tag 0 ≡ b → Mine (pick b (asks g (primitiveGrade x) j) Clear) (F tag x)
+      go : (b : Bool) → eqb tag 0 ≡ b → Mine (cond b (asks g (primitiveGrade x) j) Clear) (F tag x)
       go true e = subst (λ t. Mine (asks g (primitiveGrade x) j) (F t x)) (sym (eqb-true tag 0 e)) (primitive j x (λ y. F 0 y) h)
       go false e = tt
 
@@ -193,7 +195,7 @@ module _ (family lead g : ℕ) (any : 1 ≤ g) where
   field-mark pool field.Index ws k = tt
   field-mark pool field.Async ws k = go (eqb (word ws 0) 0)
     where
-      go : (b : Bool) → Mine (pick b Clear (asks g 2 0)) (pick b 0x40 0x43 ∷ [])
+      go : (b : Bool) → Mine (cond b Clear (asks g 2 0)) (cond b 0x40 0x43 ∷ [])
       go true = tt
       go false = asked 2 0 (0x43 ∷ []) (first 2 0x43 [] k)
   field-mark pool field.Flag ws k = tt
@@ -208,7 +210,7 @@ module _ (family lead g : ℕ) (any : 1 ≤ g) where
       more : List ℕ
       more = plain ++ (slots ws ∷ slotsAt pool ws)
 
-      go : (b : Bool) → Mine (pick b Clear (asks g 3 0)) (pick b (0x00 ∷ plain) (0x02 ∷ more))
+      go : (b : Bool) → Mine (cond b Clear (asks g 3 0)) (cond b (0x00 ∷ plain) (0x02 ∷ more))
       go true = tt
       go false = asked 3 0 (0x02 ∷ more) (first 3 0x02 more k)
   field-mark pool field.Reference ws k = go (eqb (word ws 0) 2) refl
@@ -219,7 +221,7 @@ module _ (family lead g : ℕ) (any : 1 ≤ g) where
       y : ℕ
       y = word ws 2
 
-      go : (b : Bool) → eqb (word ws 0) 2 ≡ b → Mine (pick b (valueMark g x y 1) Clear) (externdesc (word ws 0) x y)
+      go : (b : Bool) → eqb (word ws 0) 2 ≡ b → Mine (cond b (valueMark g x y 1) Clear) (externdesc (word ws 0) x y)
       go true e =
           subst (λ s. Mine (valueMark g x y 1) (externdesc s x y)) (sym (eqb-true (word ws 0) 2 e))
           (value 1 x y (λ t v. 0x02 ∷ valtype t v) (second 0x02 0x64 [] k))
@@ -289,7 +291,7 @@ module _ (family lead g : ℕ) (any : 1 ≤ g) where
   known-seq (f ∷ fs) p h k = (h .0, λ v. known-seq fs p (h .1) k)
 
   known-plan : (s : Shape) → shapeMarks family lead s ≡ true → Known (plan s)
-  known-plan s e = known-seq (opening s) (pick (s .counted) (counts s) (seq (closing s) end)) (known-all (opening s) (a .0)) (go (s .counted))
+  known-plan s e = known-seq (opening s) (cond (s .counted) (counts s) (seq (closing s) end)) (known-all (opening s) (a .0)) (go (s .counted))
     where
       a : (allMark family lead (opening s) ≡ true) × ((allMark family lead (group s) && allMark family lead (closing s)) ≡ true)
       a = both (allMark family lead (opening s)) (allMark family lead (group s) && allMark family lead (closing s)) e
@@ -300,7 +302,7 @@ module _ (family lead g : ℕ) (any : 1 ≤ g) where
       last : KnownAll (closing s)
       last = known-all (closing s) (b .1)
 
-      go : (c : Bool) → Known (pick c (counts s) (seq (closing s) end))
+      go : (c : Bool) → Known (cond c (counts s) (seq (closing s) end))
       go true = (
         refl,
         λ v.
@@ -313,7 +315,7 @@ module _ (family lead g : ℕ) (any : 1 ≤ g) where
 
   -- with no bytes before them
   at-start : (mk : Mark) (bs : List ℕ) (j : ℕ) → First mk 0 bs → mk ≡ At j → Stands bs j
-  at-start Clear bs j h m = let z : _≡_ {A = ℕ} 0 1 = cc in absurd (omega arith)
+  at-start Clear bs j h m = impossible cc
   at-start (At k) bs j h m =
       let q : k ≡ j = cc in
       let e = h .1 in

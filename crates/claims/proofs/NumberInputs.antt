@@ -12,13 +12,14 @@ use Rattle.fields.specs.declared.Shape.{Shape}
 use Rattle.fields.specs.declared.Found.the-variants as found
 use Rattle.fields.specs.declared.Field.the-variants as field
 use Rattle.fields.specs.Table.{twoOf}
-use Rattle.fields.specs.Write.{numberOfRefusal, numberOf}
+use Rattle.fields.specs.Answers.{numberOfRefusal, numberOf}
 use Rattle.sections.specs.declared.Phase.{Phase}
 use Rattle.sections.specs.declared.Phase.the-variants.{Closed, Opened, Parametered}
 use Rattle.sections.specs.declared.Section.{Section}
 use Rattle.sections.specs.Finish.{framing, finishing}
 use Rattle.sections.specs.Section.{fresh, knownFamily, sounds}
 use Rattle.claims.specs.Numbers.{Met}
+use Rattle.numbers.proofs.Impossible.{impossible}
 
 -- what a list of inputs answers
 abbrev pub each : {A B : Type 0} → (A → B) → List A → List B
@@ -27,8 +28,8 @@ each f (x ∷ xs) = f x ∷ each f xs
 
 pub meets : {A : Type 0} (f : A → ℕ) (xs : List A) (ns : List ℕ) → each f xs ≡ ns → Met f ns
 meets f [] [] e = tt
-meets f [] (n ∷ ns) e = let z : _≡_ {A = ℕ} 0 1 = cc in absurd (omega arith)
-meets f (x ∷ xs) [] e = let z : _≡_ {A = ℕ} 0 1 = cc in absurd (omega arith)
+meets f [] (n ∷ ns) e = impossible cc
+meets f (x ∷ xs) [] e = impossible cc
 meets f (x ∷ xs) (n ∷ ns) e =
     let head : f x ≡ n = cc in
     let tail : each f xs ≡ ns = cc in

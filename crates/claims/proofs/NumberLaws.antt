@@ -4,7 +4,7 @@ use Prim.Native.Nat.{ℕ, zero, suc, _+_, _≤_, _<_}
 use native.Mathlib.Omega.{arith}
 use mathlib.Core.Path.{_≡_, refl, sym, ap, _∙_}
 use mathlib.Core.Logic.{_⊎_, inl, inr}
-use mathlib.Core.Bool.{Bool, true, false, _&&_}
+use mathlib.Core.Bool.{Bool, true, false, _&&_, cond}
 use mathlib.Core.List.{List, [], _∷_, _++_}
 use borrow.Author.Tests.{ltb-true, ltb-false, leb-true, eqb-true}
 use lib.Dec.{eqb, ltb, leb}
@@ -25,31 +25,34 @@ use Rattle.fields.specs.declared.Read.the-variants as read
 use Rattle.fields.specs.declared.Refusal.{Refusal}
 use Rattle.fields.specs.declared.Refusal.the-variants as refusal
 use Rattle.fields.specs.declared.Shape.{Shape}
-use Rattle.fields.specs.Binary.{pick, word, chars, indexed, bytes}
-use Rattle.fields.specs.Judge.{wide, then, below, unused, value, optionalValue, named, optionalIndex, choice, optionalName, reference, flaw, unless, judge}
-use Rattle.fields.specs.Read.{refusalOf}
-use Rattle.fields.specs.Row.{measuredFound, measuredRow}
+use Rattle.fields.specs.Words.{word, chars, indexed, wide}
+use Rattle.writing.specs.Binary.{bytes}
+use Rattle.writing.specs.Judge.{then, below, unused, value, optionalValue, named, optionalIndex, choice, optionalName, reference, flaw, unless, judge}
+use Rattle.reading.specs.Read.{refusalOf}
+use Rattle.writing.specs.Row.{measuredFound, measuredRow}
 use Rattle.fields.specs.Shape.{opening, group, closing, repeated, seq, counts, plan, widths, rowWidth}
 use Rattle.fields.specs.Table.{Line, shapeIn}
 use Rattle.fields.specs.Walk.{Plan, end, step, Side, next, walk}
-use Rattle.fields.specs.Write.{numberOfRefusal, numberOf, Left, writer, judged, sized, measured, stored}
-use Rattle.fields.proofs.AnswerLaws.{Sized}
-use Rattle.fields.proofs.TableRows.{every, of-every}
-use Rattle.fields.proofs.WholeLaws.{never-too-big}
+use Rattle.fields.specs.Answers.{numberOfRefusal, numberOf, Left}
+use Rattle.writing.specs.Write.{writer, judged, sized, measured, stored}
+use Rattle.writing.proofs.AnswerLaws.{Sized}
+use Rattle.writing.proofs.TableRows.{every, of-every}
+use Rattle.writing.proofs.WholeLaws.{never-too-big}
 use Rattle.claims.specs.Kept.{numberOfRead}
 use Rattle.claims.specs.Numbers.{Among}
+use Rattle.numbers.proofs.Impossible.{impossible}
 
 -- ---- a list of numbers as a test
 
 abbrev pub member : ℕ → List ℕ → Bool
 member n [] = false
-member n (m ∷ ms) = pick (eqb n m) true (member n ms)
+member n (m ∷ ms) = cond (eqb n m) true (member n ms)
 
 pub among : (n : ℕ) (ns : List ℕ) → member n ns ≡ true → Among n ns
-among n [] e = let z : _≡_ {A = ℕ} 0 1 = cc in absurd (omega arith)
+among n [] e = impossible cc
 among n (m ∷ ms) e = go (eqb n m) refl e (among n ms)
   where
-    go : (b : Bool) → eqb n m ≡ b → pick b true (member n ms) ≡ true → (member n ms ≡ true → Among n ms) → (n ≡ m) ⊎ Among n ms
+    go : (b : Bool) → eqb n m ≡ b → cond b true (member n ms) ≡ true → (member n ms ≡ true → Among n ms) → (n ≡ m) ⊎ Among n ms
     go true p e ih = inl (eqb-true _ _ p)
     go false p e ih = inr (ih e)
 
@@ -90,7 +93,7 @@ refusal-told ns (Fine e q) h = among (numberOfRefusal refusal.Room) ns h
 refusal-told ns (Bad w j) h = among (numberOfRefusal w) ns h
 
 -- what holds both ways holds of a test
-pub on-test : {X : Type 0} (Q : X → Type 0) (b : Bool) {x y : X} → Q x → Q y → Q (pick b x y)
+pub on-test : {X : Type 0} (Q : X → Type 0) (b : Bool) {x y : X} → Q x → Q y → Q (cond b x y)
 on-test Q true h k = h
 on-test Q false h k = k
 
@@ -222,7 +225,7 @@ module _ (C : Field → Type 0) where
 
   pub each-plan : (s : Shape) → All (opening s) → C field.Index → All (group s) → All (closing s) → Each (plan s)
   each-plan s o i g c =
-      each-seq (opening s) (pick (s .counted) (counts s) (seq (closing s) end)) o
+      each-seq (opening s) (cond (s .counted) (counts s) (seq (closing s) end)) o
       (on-test Each (s .counted) (i, (λ v. groups (getD v 0 0))) (each-seq (closing s) end c tt))
     where
       groups : (n : ℕ) → Each (seq (repeated n (group s) ++ closing s) end)
@@ -275,27 +278,27 @@ measured-why P s row start pool h = rows (ltb 16384 (length row)) refl
     made (Bad w j) p k width short small = k
     made (Fine e m) p k width short small = right (ltb 4294967295 m) refl
       where
-        right : (b : Bool) → ltb 4294967295 m ≡ b → Tells P (pick b (Refused refusal.TooBig 0) (Size m))
+        right : (b : Bool) → ltb 4294967295 m ≡ b → Tells P (cond b (Refused refusal.TooBig 0) (Size m))
         right true q = h .big m (record { width = width; short = short; small = small; end = e; judges = p }) (ltb-true _ _ q)
         right false q = tt
 
     widths : (b : Bool) → eqb (rowWidth s row start) (length row) ≡ b → length row ≤ 16384 → length pool ≤ 65536
-        → Tells P (pick b (sized (judged s pool row start)) (Refused refusal.Row 0))
+        → Tells P (cond b (sized (judged s pool row start)) (Refused refusal.Row 0))
     widths true p short small =
         made (judged s pool row start) refl
         (walk-why (Allowed P) P (writer pool) (judge-why P (h .tag) pool) (plan s) (h .names) (drop start row) start 0) (eqb-true _ _ p) short small
     widths false p short small = h .width p
 
     pools : (b : Bool) → ltb 65536 (length pool) ≡ b → length row ≤ 16384
-        → Tells P (pick b (Refused refusal.Limit 0)
-        (pick (eqb (rowWidth s row start) (length row)) (sized (judged s pool row start)) (Refused refusal.Row 0)))
+        → Tells P (cond b (Refused refusal.Limit 0)
+        (cond (eqb (rowWidth s row start) (length row)) (sized (judged s pool row start)) (Refused refusal.Row 0)))
     pools true p short = h .limit true refl (inr (sym p))
     pools false p short = widths (eqb (rowWidth s row start) (length row)) refl short (ltb-false _ _ p)
 
     rows : (b : Bool) → ltb 16384 (length row) ≡ b
-        → Tells P (pick b (Refused refusal.Limit 0)
-        (pick (ltb 65536 (length pool)) (Refused refusal.Limit 0)
-        (pick (eqb (rowWidth s row start) (length row)) (sized (judged s pool row start)) (Refused refusal.Row 0))))
+        → Tells P (cond b (Refused refusal.Limit 0)
+        (cond (ltb 65536 (length pool)) (Refused refusal.Limit 0)
+        (cond (eqb (rowWidth s row start) (length row)) (sized (judged s pool row start)) (Refused refusal.Row 0))))
     rows true p = h .limit true refl (inl (sym p))
     rows false p = pools (ltb 65536 (length pool)) refl (ltb-false _ _ p)
 
@@ -306,10 +309,10 @@ never-big s worded m k h = absurd (omega (arith, never-too-big k worded))
 
 -- the same as a test, which is computed over a table
 abbrev pub worded : Shape → Bool
-worded s = pick (s .counted) (leb 1 (widths (group s))) true
+worded s = cond (s .counted) (leb 1 (widths (group s))) true
 
 pub worded-group : (s : Shape) → worded s ≡ true → s .counted ≡ true → 1 ≤ widths (group s)
-worded-group s e c = leb-true 1 (widths (group s)) (ap (λ t. pick t (leb 1 (widths (group s))) true) (sym c) ∙ e)
+worded-group s e c = leb-true 1 (widths (group s)) (ap (λ t. cond t (leb 1 (widths (group s))) true) (sym c) ∙ e)
 
 -- a row of a kind: an empty one is ROW, and no kind is KIND
 pub record MeasuresRow (P : Refusal → Type 0) (found : Found) (row pool : List ℕ) : Type 0 where
@@ -340,7 +343,7 @@ stored-why P room (Refused w n) bs out at h = h
 
 both : (a b : Bool) → (a && b) ≡ true → (a ≡ true) × (b ≡ true)
 both true b e = (refl, e)
-both false b e = let z : _≡_ {A = ℕ} 0 1 = cc in absurd (omega arith)
+both false b e = impossible cc
 
 abbrev namelessAll : List Field → Bool
 namelessAll [] = true
@@ -357,7 +360,7 @@ nameless-plan P s e =
   where
     one : (b : Bool) → b ≡ true → Names P b
     one true q = tt
-    one false q = let z : _≡_ {A = ℕ} 0 1 = cc in absurd (omega arith)
+    one false q = impossible cc
 
     go : (fs : List Field) → namelessAll fs ≡ true → All (Allowed P) fs
     go [] q = tt

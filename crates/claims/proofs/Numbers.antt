@@ -3,15 +3,11 @@ use Prim.Native.Nat.{ℕ, _+_}
 use native.Mathlib.Omega.{arith}
 use mathlib.Core.Path.{_≡_, refl, ap}
 use mathlib.Core.Logic.{_⊎_, inl, inr}
-use mathlib.Core.Bool.{Bool, true, false, cond}
+use mathlib.Core.Bool.{Bool, true, false}
 use mathlib.Core.List.{List, [], _∷_, _++_}
-use lib.Dec.{leb}
-use lib.ListN.{length}
-use lib.Seq.{sets}
-use Rattle.numbers.specs.declared.bytes.Stored.the-variants.{Size, Room}
 use Rattle.numbers.specs.declared.leb.Taken.{Taken}
 use Rattle.numbers.specs.declared.leb.Taken.the-variants as taken
-use Rattle.numbers.specs.Bytes.{left, store, partOf}
+use Rattle.numbers.specs.Bytes.{store, partOf}
 use Rattle.numbers.specs.Leb.{bytesOf, unsigned, signed, takeIn, within32, numberIn, more, takeUnsigned, takeSigned}
 use Rattle.numbers.specs.Numbers as numbers
 use Rattle.numbers.specs.Text as text
@@ -23,21 +19,23 @@ use Rattle.fields.specs.declared.Read.the-variants as read
 use Rattle.fields.specs.declared.Refusal.{Refusal}
 use Rattle.fields.specs.declared.Refusal.the-variants as refusal
 use Rattle.fields.specs.declared.Shape.{Shape}
-use Rattle.fields.specs.Binary.{name, primvaltype, valtype, optional, resultlist, functype, flag, representation, destructor, indexed, canonopt, slotAt, slotsAt, slots, externname, typebound, externdesc, bytes}
-use Rattle.fields.specs.Fill.{primitive, fillValue, fillName, fill}
-use Rattle.fields.specs.Judge.{wide, value, optionalValue, named, optionalName, reference, flaw, judge}
-use Rattle.fields.specs.Read.{roomed, readItem, scannedItem, refusalOf}
-use Rattle.fields.specs.Row.{measuredRow, rowBytes, writeRow}
-use Rattle.fields.specs.Scan.{scanIndex, scanName, scanPrimitive, scanValue, headScan, firstScan, secondScan, scanExtern, scanReference, slotScan, endScan, scan}
+use Rattle.writing.specs.Binary.{name, primvaltype, valtype, optional, resultlist, functype, flag, representation, destructor, canonopt, slotAt, slotsAt, slots, externname, typebound, externdesc, bytes}
+use Rattle.fields.specs.Words.{indexed, wide}
+use Rattle.reading.specs.Fill.{primitive, fillValue, fillName, fill}
+use Rattle.writing.specs.Judge.{value, optionalValue, named, optionalName, reference, flaw, judge}
+use Rattle.reading.specs.Read.{roomed, readItem, scannedItem, refusalOf}
+use Rattle.writing.specs.Row.{measuredRow, rowBytes, writeRow}
+use Rattle.reading.specs.Scan.{scanIndex, scanName, scanPrimitive, scanValue, headScan, firstScan, secondScan, scanExtern, scanReference, slotScan, endScan, scan, byte}
 use Rattle.fields.specs.Shape.{plan, repeated, seq, widths, rowWidth}
 use Rattle.fields.specs.Table.{shapeIn}
 use Rattle.fields.specs.View.{view}
 use Rattle.fields.specs.Walk.{walk, outs}
-use Rattle.fields.specs.Write.{numberOfRefusal, numberOf, written, sized, measured, stored, writeShape}
-use Rattle.types.specs.Read.{kindIn, kindOf, leadGrade, readType}
+use Rattle.fields.specs.Answers.{numberOfRefusal, numberOf}
+use Rattle.writing.specs.Write.{written, sized, measured, stored, writeShape}
+use Rattle.items.specs.ReadType.{kindIn, kindOf, leadGrade, readType}
 use Rattle.types.specs.Write as types
 use Rattle.types.specs.Write.{measuredType, writeType}
-use Rattle.imports.specs.Read.{readImport}
+use Rattle.items.specs.ReadImport.{readImport}
 use Rattle.imports.specs.Write as imports
 use Rattle.imports.specs.Write.{measuredImport, writeImport}
 use Rattle.canonicals.specs.Write.{canonicalBytes, measuredCanonical, writeCanonical}
@@ -53,7 +51,6 @@ use Rattle.cabi.specs.declared.Given.the-variants.{Is, Not}
 use Rattle.cabi.specs.Read.{replyOfRead}
 use Rattle.cabi.specs.State as c
 use Rattle.cabi.specs.State.{given, numbersOf, step}
-use Rattle.fields.specs.Scan.{byte}
 use Rattle.claims.specs.Kept.{numberOfRead}
 use Rattle.claims.specs.Numbers.{Among, Met, Exactly, RefusesBy}
 use Rattle.claims.proofs.BigShape.{bytesShape, big-measured, big-row}
@@ -62,6 +59,7 @@ use Rattle.claims.proofs.ReadNumbers.{item-why, refusal-why}
 use Rattle.claims.proofs.StepNumbers.{Named, type-why, import-why, canonical-why, write-type-why, write-import-why, write-canonical-why, write-family-why, row-why, open-why, async-why, params-why, result-why, abandon-why, finish-why, sheet-why}
 use Rattle.claims.proofs.NumberInputs as input
 use Rattle.claims.proofs.NumberInputs.{each, meets, zeros, zeros-length, too-big}
+use Rattle.numbers.proofs.Impossible.{impossible}
 
 exactly : {A : Type 0} {f : A → ℕ} {ns : List ℕ} → ((x : A) → Among (f x) ns) → (xs : List A) → each f xs ≡ ns → Exactly A f ns
 exactly {A} {f} {ns} other xs e = record { no-other = other; met = meets f xs ns e }
@@ -141,9 +139,9 @@ part-numbers ns s words pool out at room h =
 
 -- a word or two are no row too long
 few-words : {X : Type 0} (b : Bool) → b ≡ true → (b ≡ false) ⊎ (b ≡ false) → X
-few-words true e (inl k) = let z : _≡_ {A = ℕ} 0 1 = cc in absurd (omega arith)
-few-words true e (inr k) = let z : _≡_ {A = ℕ} 0 1 = cc in absurd (omega arith)
-few-words false e k = let z : _≡_ {A = ℕ} 0 1 = cc in absurd (omega arith)
+few-words true e (inl k) = impossible cc
+few-words true e (inr k) = impossible cc
+few-words false e k = impossible cc
 
 async-part : (a : ℕ) (out : List ℕ) (at : ℕ) → Among (numberOf (writeShape types.asyncShape (a ∷ []) 0 [] out at .answer)) (0 ∷ 4 ∷ 8 ∷ [])
 unfolding numberOfRefusal rowWidth widths wide
@@ -151,10 +149,10 @@ async-part a out at =
     part-numbers (4 ∷ []) types.asyncShape (a ∷ []) [] out at refl
     (record {
       limit = few-words;
-      width = λ e. let z : _≡_ {A = ℕ} 0 1 = cc in absurd (omega arith);
+      width = λ e. impossible cc;
       tag = refl;
       names = nameless-plan (Listed (4 ∷ 8 ∷ [])) types.asyncShape refl;
-      big = never-big types.asyncShape (λ e. let z : _≡_ {A = ℕ} 0 1 = cc in absurd (omega arith));
+      big = never-big types.asyncShape (λ e. impossible cc);
     })
 
 result-part : (t x : ℕ) (out : List ℕ) (at : ℕ) → Among (numberOf (writeShape types.resultShape (t ∷ x ∷ []) 0 [] out at .answer)) (0 ∷ 4 ∷ 8 ∷ [])
@@ -163,10 +161,10 @@ result-part t x out at =
     part-numbers (4 ∷ []) types.resultShape (t ∷ x ∷ []) [] out at refl
     (record {
       limit = few-words;
-      width = λ e. let z : _≡_ {A = ℕ} 0 1 = cc in absurd (omega arith);
+      width = λ e. impossible cc;
       tag = refl;
       names = nameless-plan (Listed (4 ∷ 8 ∷ [])) types.resultShape refl;
-      big = never-big types.resultShape (λ e. let z : _≡_ {A = ℕ} 0 1 = cc in absurd (omega arith));
+      big = never-big types.resultShape (λ e. impossible cc);
     })
 
 params-part : (first : Bool) (words pool out : List ℕ) (at : ℕ)

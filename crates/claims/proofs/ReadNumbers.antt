@@ -15,9 +15,10 @@ use Rattle.fields.specs.declared.Leaf.{Leaf}
 use Rattle.fields.specs.declared.Leaf.the-variants.{Fine, Bad}
 use Rattle.fields.specs.declared.Refusal.{Refusal}
 use Rattle.fields.specs.declared.Refusal.the-variants as refusal
-use Rattle.fields.specs.Binary.{indexed}
-use Rattle.fields.specs.Read.{LeftRow, reader, scanned, filled, roomed, readFound, readItem, scannedFound, scannedItem, refusalOf}
-use Rattle.fields.specs.Scan.{byte, there, asked, past, numbered, scanIndex, named, scanName, scanPrimitive, scanValue, zeroAt, either, scanOptional, thenZero, scanResult, scanChoice, onward, stringAt, counted, countAt, slotScan, endScan, headScan, firstScan, secondScan, scanExtern, scanBound, scanModule, three, scanReference, scanEither, scanOptionalIndex, scan}
+use Rattle.fields.specs.Words.{indexed}
+use Rattle.fields.specs.Answers.{LeftRow}
+use Rattle.reading.specs.Read.{reader, scanned, filled, roomed, readFound, readItem, scannedFound, scannedItem, refusalOf}
+use Rattle.reading.specs.Scan.{byte, there, asked, past, numbered, scanIndex, named, scanName, scanPrimitive, scanValue, zeroAt, either, scanOptional, thenZero, scanResult, scanChoice, onward, stringAt, counted, countAt, slotScan, endScan, headScan, firstScan, secondScan, scanExtern, scanBound, scanModule, three, scanReference, scanEither, scanOptionalIndex, scan}
 use Rattle.fields.specs.Shape.{plan}
 use Rattle.claims.proofs.NumberLaws.{Ends, TellsRead, on-test, each-any, walk-why}
 

@@ -1,8 +1,8 @@
 -- Why a row of each family, a step of a section, its finishing and a sheet are refused, by a predicate over refusals.
 use Prim.Native.Nat.{ℕ, _+_}
 use native.Mathlib.Omega.{arith}
-use mathlib.Core.Path.{_≡_, refl, sym, ap, _∙_}
-use mathlib.Core.Bool.{Bool, true, false}
+use mathlib.Core.Path.{_≡_, refl}
+use mathlib.Core.Bool.{Bool, true, false, cond}
 use mathlib.Core.List.{List, [], _∷_}
 use lib.Dec.{eqb, ltb, leb}
 use lib.ListN.{length, take}
@@ -11,19 +11,19 @@ use Rattle.fields.specs.declared.Answer.{Answer}
 use Rattle.fields.specs.declared.Answer.the-variants.{Size, Refused}
 use Rattle.fields.specs.declared.Field.{Field}
 use Rattle.fields.specs.declared.Field.the-variants as field
-use Rattle.fields.specs.declared.Found.the-variants.{Is, Not}
+use Rattle.fields.specs.declared.Found.the-variants.{Is}
 use Rattle.fields.specs.declared.Leaf.{Leaf}
 use Rattle.fields.specs.declared.Leaf.the-variants.{Fine, Bad}
 use Rattle.fields.specs.declared.Refusal.{Refusal}
 use Rattle.fields.specs.declared.Refusal.the-variants as refusal
 use Rattle.fields.specs.declared.Shape.{Shape}
-use Rattle.fields.specs.Binary.{pick, word}
-use Rattle.fields.specs.Judge.{wide}
-use Rattle.fields.specs.Row.{measuredRow, rowBytes, writeRow}
+use Rattle.fields.specs.Words.{word, wide}
+use Rattle.writing.specs.Row.{measuredRow, rowBytes, writeRow}
 use Rattle.fields.specs.Shape.{plan, widths, rowWidth}
 use Rattle.fields.specs.Table.{shapeIn}
-use Rattle.fields.specs.Write.{Left, measured, written, stored, writeShape}
-use Rattle.fields.proofs.TableRows.{every, of-every}
+use Rattle.fields.specs.Answers.{Left}
+use Rattle.writing.specs.Write.{measured, written, stored, writeShape}
+use Rattle.writing.proofs.TableRows.{every, of-every}
 use Rattle.types.specs.Table as types
 use Rattle.types.specs.Write.{measuredType, writeType}
 use Rattle.imports.specs.Table as imports
@@ -43,7 +43,8 @@ use Rattle.sheets.specs.Frame as frame
 use Rattle.sheets.specs.Frame.{Rows, Are, Broken, poolOf}
 use Rattle.sheets.specs.Sheet as sheet
 use Rattle.sheets.specs.Sheet.{familyOf, tried, tries, joined, finished, ofRows, sheeted}
-use Rattle.claims.proofs.NumberLaws.{Ends, Tells, on-test, Allowed, Each, each-any, all-allowed, Measures, measured-why, never-big, worded, worded-group, namelessShape, nameless-plan, measured-row-why, stored-why, Basic, shape-why, table-why}
+use Rattle.claims.proofs.NumberLaws.{Ends, Tells, on-test, Allowed, Each, each-any, all-allowed, Measures, measured-why, never-big, namelessShape, nameless-plan, measured-row-why, stored-why, Basic, shape-why, table-why}
+use Rattle.numbers.proofs.Impossible.{impossible}
 
 -- ---- rows
 
@@ -70,7 +71,7 @@ module _ (P : Refusal → Type 0) where
   unfolding measuredCanonical every widths wide
   canonical-why h row pool = go (eqb (word row 0) 256)
     where
-      go : (b : Bool) → Tells P (measuredRow (pick b (Is liftShape) (shapeIn canonicals.table (word row 0))) row pool)
+      go : (b : Bool) → Tells P (measuredRow (cond b (Is liftShape) (shapeIn canonicals.table (word row 0))) row pool)
       go true =
           measured-row-why P (Is liftShape) row pool
           (record {
@@ -87,7 +88,8 @@ module _ (P : Refusal → Type 0) where
   unfolding measuredFamily
   family-why h family row pool =
       on-test (Tells P) (eqb family 7) (type-why h row pool)
-      (on-test (Tells P) (eqb family 8) (canonical-why (h .basic) row pool) (import-why h row pool))
+      (on-test (Tells P) (eqb family 8) (canonical-why (h .basic) row pool)
+      (on-test (Tells P) (eqb family 10) (import-why h row pool) (h .basic .limit)))
 
   -- ---- writing them
 
@@ -170,10 +172,10 @@ module _ (P : Refusal → Type 0) (limit : P refusal.Limit) (s : Section) (body 
         fields =
             record {
               limit = λ b e k. limit;
-              width = λ e. let z : _≡_ {A = ℕ} 0 1 = cc in absurd (omega arith);
+              width = λ e. impossible cc;
               tag = tag;
               names = nameless-plan P asyncShape refl;
-              big = never-big asyncShape (λ e. let z : _≡_ {A = ℕ} 0 1 = cc in absurd (omega arith));
+              big = never-big asyncShape (λ e. impossible cc);
             }
 
         go : (p : Phase) → Turns (asyncIn p s a body)
@@ -190,10 +192,10 @@ module _ (P : Refusal → Type 0) (limit : P refusal.Limit) (s : Section) (body 
         fields =
             record {
               limit = λ b e k. limit;
-              width = λ e. let z : _≡_ {A = ℕ} 0 1 = cc in absurd (omega arith);
+              width = λ e. impossible cc;
               tag = tag;
               names = nameless-plan P resultShape refl;
-              big = never-big resultShape (λ e. let z : _≡_ {A = ℕ} 0 1 = cc in absurd (omega arith));
+              big = never-big resultShape (λ e. impossible cc);
             }
 
         go : (p : Phase) → Turns (resultIn p s t x body)

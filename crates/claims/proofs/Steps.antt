@@ -2,22 +2,22 @@
 use Prim.Native.Nat.{ℕ, _<_}
 use native.Mathlib.Omega.{arith}
 use mathlib.Core.Path.{_≡_, refl}
-use mathlib.Core.Bool.{Bool, true, false}
+use mathlib.Core.Bool.{Bool, true, false, cond}
 use mathlib.Core.List.{List, [], _∷_}
 use borrow.Author.Tests.{lt-ltb}
 use lib.Dec.{ltb}
 use lib.ListN.{length, length-append}
 use Rattle.fields.specs.declared.Refusal.the-variants as refusal
-use Rattle.fields.specs.Binary.{pick}
 use Rattle.sections.specs.declared.Section.{Section}
 use Rattle.sections.specs.Runs.{Row, turn}
 use Rattle.sections.specs.Section.{sounds}
 use Rattle.sections.specs.Steps.{Turn, refuse, rowing}
 use Rattle.sections.proofs.StepsAreRow as steps
 use Rattle.claims.specs.Steps.{functionRow, StepsAreRows}
-use Rattle.claims.proofs.StepsAccepted.{steps-accepted, plain-steps-accepted}
+use Rattle.claims.proofs.StepsAccepted.{steps-accepted, steps-without-async-accepted}
 use Rattle.claims.proofs.StepsAgain.{tried-again}
 use Rattle.claims.proofs.StepsOpen.{abandoned}
+use Rattle.numbers.proofs.Impossible.{impossible}
 
 -- the row has four words more than the parameters
 row-too-long : (s : Section) (a : ℕ) (words pool : List ℕ) (tag x : ℕ) (body : List ℕ) → 16380 < length words
@@ -28,19 +28,19 @@ row-too-long s a words pool tag x body h =
     (lt-ltb 16384 (length (functionRow a words tag x)) (omega (arith, h, length-append words (tag ∷ x ∷ []))))
   where
     go : (b c : Bool) (t : Turn) → c ≡ true
-        → pick b (pick c (refuse s refusal.Limit body) t) (refuse s refusal.Limit body) ≡ refuse s refusal.Limit body
+        → cond b (cond c (refuse s refusal.Limit body) t) (refuse s refusal.Limit body) ≡ refuse s refusal.Limit body
     go true true t e = refl
-    go true false t e = let z : _≡_ {A = ℕ} 0 1 = cc in absurd (omega arith)
+    go true false t e = impossible cc
     go false c t e = refl
 
 pub steps-are-rows : StepsAreRows
 steps-are-rows =
     record {
       steps-accepted = λ s a words pool tag x body h. steps-accepted s body words pool tag x h a;
-      plain-steps-accepted = λ s words pool tag x body h. plain-steps-accepted s body words pool tag x h;
+      steps-without-async-accepted = λ s words pool tag x body h. steps-without-async-accepted s body words pool tag x h;
       row-too-long = row-too-long;
       steps-are-row = λ s a words pool tag x body k r. steps.steps-are-row s words pool tag x body a k r .same;
-      plain-steps-are-row = λ s words pool tag x body k r. steps.plain-steps-are-row s words pool tag x body k r .same;
+      steps-without-async-are-row = λ s words pool tag x body k r. steps.steps-without-async-are-row s words pool tag x body k r .same;
       abandoned = abandoned;
       tried-again = tried-again;
     }

@@ -3,7 +3,7 @@ use Prim.Native.Nat.{ℕ, zero, suc, _+_, _*_, _≤_}
 use native.Mathlib.Omega.{arith}
 use mathlib.Core.Logic.{_↔_}
 use mathlib.Core.Path.{_≡_, refl, sym, ap, _∙_, subst}
-use mathlib.Core.Bool.{Bool, true, false}
+use mathlib.Core.Bool.{Bool, true, false, cond}
 use mathlib.Core.List.{List, [], _∷_, _++_}
 use borrow.Author.Tests.{eqb-true, le-ltb, le-leb, eq-eqb}
 use lib.Dec.{eqb, ltb}
@@ -11,7 +11,7 @@ use lib.ListN.{length, drop, length-append}
 use lib.Seq.{sets}
 use Rattle.numbers.specs.Leb.{unsigned}
 use Rattle.fields.specs.declared.Answer.{Answer}
-use Rattle.fields.specs.declared.Answer.the-variants.{Size}
+use Rattle.fields.specs.declared.Answer.the-variants.{Size, Refused}
 use Rattle.fields.specs.declared.Field.{Field}
 use Rattle.fields.specs.declared.Field.the-variants as field
 use Rattle.fields.specs.declared.Flaw.{Flaw}
@@ -20,33 +20,36 @@ use Rattle.fields.specs.declared.Found.the-variants.{Is, Not}
 use Rattle.fields.specs.declared.Leaf.the-variants.{Fine}
 use Rattle.fields.specs.declared.Refusal.the-variants as refusal
 use Rattle.fields.specs.declared.Shape.{Shape}
-use Rattle.fields.specs.Binary.{pick, word, bytes, resultlist}
-use Rattle.fields.specs.Judge.{wide, below, value, optionalValue, named, flaw, unless, judge}
-use Rattle.fields.specs.Row.{measuredRow}
-use Rattle.fields.specs.Run.{along}
+use Rattle.fields.specs.Words.{word, wide}
+use Rattle.writing.specs.Binary.{bytes, resultlist}
+use Rattle.writing.specs.Judge.{below, value, optionalValue, named, flaw, unless, judge}
+use Rattle.writing.specs.Row.{measuredRow}
+use Rattle.fields.specs.inside.Run.{along}
 use Rattle.fields.specs.Shape.{group, repeated, widths, rowWidth}
 use Rattle.fields.specs.Table.{manyOf, shapeIn}
 use Rattle.fields.specs.Walk.{next}
-use Rattle.fields.specs.Write.{left, written, sized, measured, stored, writeShape}
-use Rattle.fields.specs.Write as write
-use Rattle.fields.proofs.AnswerLaws.{Sized, measured-sized}
-use Rattle.fields.proofs.PutLaws.{allFields, judged-along}
-use Rattle.fields.proofs.TableLaws.{strings}
-use Rattle.fields.proofs.WholeLaws as whole
-use Rattle.fields.proofs.WholeLaws.{sized-accepted, never-too-big}
+use Rattle.fields.specs.Answers.{left}
+use Rattle.writing.specs.Write.{written, sized, measured, stored, writeShape}
+use Rattle.fields.specs.Answers as answers
+use Rattle.writing.proofs.AnswerLaws.{Sized, measured-sized}
+use Rattle.writing.proofs.PutLaws.{allFields, judged-along}
+use Rattle.writing.proofs.TableLaws.{strings}
+use Rattle.writing.proofs.WholeLaws as whole
+use Rattle.writing.proofs.WholeLaws.{sized-accepted, never-too-big}
 use Rattle.types.specs.Write.{measuredType}
 use Rattle.imports.specs.Write.{measuredImport}
 use Rattle.canonicals.specs.Write.{measuredCanonical}
 use Rattle.sections.specs.declared.Phase.{Phase}
 use Rattle.sections.specs.declared.Phase.the-variants.{Closed, Opened, Asynced, Parametered}
 use Rattle.sections.specs.declared.Section.{Section}
-use Rattle.sections.specs.Runs.{Async, Params, Result, Accepted, AllAccepted}
+use Rattle.sections.specs.Runs.{Params, Result, Accepted, AllAccepted}
 use Rattle.sections.specs.Section.{familyBytes, measuredFamily, opened, sounds, writeFamily}
 use Rattle.sections.specs.Steps.{Turn, refuse, wrote, asyncIn, paramsFrom, paramsIn, resultIn, rowing, opening, asyncing, paraming, resulting}
 use Rattle.sections.proofs.FamilyLaws.{family-stored}
 use Rattle.sections.proofs.TurnLaws.{Grows, accepted-size, accepted-grows, grows-then, asyncShape, paramsShape, resultShape, row-turns, open-turns, async-turns, params-turns, result-turns}
-use Rattle.claims.specs.Steps.{functionRow, byRow, bySteps, byPlainSteps}
+use Rattle.claims.specs.Steps.{functionRow, byRow, bySteps, byStepsWithoutAsync}
 use Rattle.claims.proofs.StepsOpen.{Ready, is-closed, open-ready, ready-opens, Inside, inside-sounds, grows-inside, open-inside}
+use Rattle.numbers.proofs.Impossible.{impossible}
 
 -- ---- fields that are right
 
@@ -82,7 +85,7 @@ fine-rights pool (f ∷ fs) ws at made e m h =
         → (along (judge pool) fs (drop (wide f) ws) (at + wide f) (made + length (bytes pool f ws)) ≡ Fine e m → Rights pool fs (drop (wide f) ws))
         → (x ≡ Right) × Rights pool fs (drop (wide f) ws)
     go Right h ih = (refl, ih h)
-    go (Wrong w j) h ih = let z : _≡_ {A = ℕ} 0 1 = cc in absurd (omega arith)
+    go (Wrong w j) h ih = impossible cc
 
 -- the same of the fields of a shape
 abbrev ShapeRights : Shape → List ℕ → ℕ → List ℕ → Type 0
@@ -160,7 +163,7 @@ unfolding flaw wide strings bytes widths rowWidth
 right-async a r =
     sized-measured asyncShape (a ∷ []) 0 [] 1
     (rights-sized asyncShape (a ∷ []) 0 [] 1 refl (omega arith) (omega arith) (refl, (refl, (r, (refl, (refl, tt))))) refl)
-    (λ e. let z : _≡_ {A = ℕ} 0 1 = cc in absurd (omega arith))
+    (λ e. impossible cc)
 
 result-right : (tag x size : ℕ) → Sized resultShape (tag ∷ x ∷ []) 0 [] size → RightResult tag x × (size ≡ length (resultlist tag x))
 unfolding flaw wide strings bytes widths
@@ -175,7 +178,7 @@ right-result tag x r =
     sized-measured resultShape (tag ∷ x ∷ []) 0 [] size
     (rights-sized resultShape (tag ∷ x ∷ []) 0 [] size refl (omega arith) (omega arith) (refl, (refl, (r, (refl, (refl, tt)))))
     (omega (arith, length-append (resultlist tag x) [])))
-    (λ e. let z : _≡_ {A = ℕ} 0 1 = cc in absurd (omega arith))
+    (λ e. impossible cc)
 
 -- the parameters behind a lead that has no word
 data Leads : Field → Type 0 where
@@ -304,7 +307,7 @@ stored-accepts : (s : Section) (body : List ℕ) (count : ℕ) (phase : Phase) (
 unfolding stored
 stored-accepts s body count phase r bs size e h =
     rw e
-    (subst (λ b. Accepted (wrote s count phase (pick b (left (Size size) (sets body (s .used) bs)) (write.refuse refusal.Room size body))))
+    (subst (λ b. Accepted (wrote s count phase (cond b (left (Size size) (sets body (s .used) bs)) (answers.refuse refusal.Room size body))))
     (sym (le-leb (s .used + size) (length body) h)) tt)
 
 shape-accepts : (s : Section) (body : List ℕ) (count : ℕ) (phase : Phase) (shape : Shape) (words pool : List ℕ) (size : ℕ)
@@ -321,28 +324,30 @@ module _ (s : Section) (body : List ℕ) (a : ℕ) (words pool : List ℕ) (tag 
 
   abbrev rowedBy : Bool → Bool → Bool → Bool → Bool → Turn
   rowedBy b c d e f =
-      pick b
-      (pick c (refuse s refusal.Limit body)
-      (pick d (refuse s refusal.Limit body)
-      (pick e (refuse s refusal.Order body)
-      (pick f (refuse s refusal.Count body)
+      cond b
+      (cond c (refuse s refusal.Limit body)
+      (cond d (refuse s refusal.Limit body)
+      (cond e (refuse s refusal.Order body)
+      (cond f (refuse s refusal.Count body)
       (wrote s (s .count + 1) Closed (writeFamily (s .family) row pool body (s .used)))))))
       (refuse s refusal.Limit body)
 
   -- only the types have a kind 15
   row-types : (family size : ℕ) → measuredFamily family row pool ≡ Size size → (family ≡ 7) × (measuredRow (Is functionShape) row pool ≡ Size size)
   unfolding measuredFamily measuredType measuredCanonical measuredImport shapeIn
-  row-types family size e = go (eqb family 7) refl (eqb family 8) e
+  row-types family size e = go (eqb family 7) refl (eqb family 8) (eqb family 10) e
     where
       unknown : measuredRow Not row pool ≡ Size size → ⊥
       unknown e = let q = whole.accepted Not row pool size e .is in let z : _≡_ {A = ℕ} 0 1 = cc in omega arith
 
-      go : (b : Bool) → eqb family 7 ≡ b → (c : Bool)
-          → pick b (measuredRow (Is functionShape) row pool) (pick c (measuredRow Not row pool) (measuredRow Not row pool)) ≡ Size size
+      go : (b : Bool) → eqb family 7 ≡ b → (c d : Bool)
+          → cond b (measuredRow (Is functionShape) row pool)
+          (cond c (measuredRow Not row pool) (cond d (measuredRow Not row pool) (Refused refusal.Limit 0))) ≡ Size size
           → (family ≡ 7) × (measuredRow (Is functionShape) row pool ≡ Size size)
-      go true p c e = (eqb-true _ _ p, e)
-      go false p true e = absurd (unknown e)
-      go false p false e = absurd (unknown e)
+      go true p c d e = (eqb-true _ _ p, e)
+      go false p true d e = absurd (unknown e)
+      go false p false true e = absurd (unknown e)
+      go false p false false e = impossible cc
 
   row-tests : Accepted (rowing s row pool body) → s .family ≡ 7 → Ready s body
   unfolding rowing
@@ -516,9 +521,9 @@ module _ (s : Section) (body : List ℕ) (words pool : List ℕ) (tag x : ℕ) (
       )
 
   -- and without
-  plain-say : AllAccepted (byPlainSteps words pool tag x) s body → RightRow s body 0 words pool tag x
+  without-async-say : AllAccepted (byStepsWithoutAsync words pool tag x) s body → RightRow s body 0 words pool tag x
   unfolding bytes
-  plain-say k =
+  without-async-say k =
       let g = accepted-grows (open-turns s body) (k .0) in
       let rest =
       rest-says t₀ b₀ (field.Fixed 0x40) (fixed 0x40) (ap (λ p. paramsIn p t₀ words pool b₀) (g .stands)) g (k .1) in
@@ -530,9 +535,9 @@ module _ (s : Section) (body : List ℕ) (words pool : List ℕ) (tag x : ℕ) (
         room = omega (arith, rest .2);
       }
 
-  say-plain : RightRow s body 0 words pool tag x → AllAccepted (byPlainSteps words pool tag x) s body
+  say-without-async : RightRow s body 0 words pool tag x → AllAccepted (byStepsWithoutAsync words pool tag x) s body
   unfolding bytes
-  say-plain k =
+  say-without-async k =
       let k₀ = ready-opens s body (k .ready) in
       let g = accepted-grows (open-turns s body) k₀ in
       let i = open-inside s body k₀ in (
@@ -545,6 +550,6 @@ module _ (s : Section) (body : List ℕ) (words pool : List ℕ) (tag x : ℕ) (
   steps-accepted a =
       ((λ k. (says-row s body a words pool tag x short (steps-say a k), tt)), (λ k. say-steps a (row-says s body a words pool tag x (k .0))))
 
-  pub plain-steps-accepted : AllAccepted (byPlainSteps words pool tag x) s body ↔ AllAccepted (byRow 0 words pool tag x) s body
-  plain-steps-accepted =
-      ((λ k. (says-row s body 0 words pool tag x short (plain-say k), tt)), (λ k. say-plain (row-says s body 0 words pool tag x (k .0))))
+  pub steps-without-async-accepted : AllAccepted (byStepsWithoutAsync words pool tag x) s body ↔ AllAccepted (byRow 0 words pool tag x) s body
+  steps-without-async-accepted =
+      ((λ k. (says-row s body 0 words pool tag x short (without-async-say k), tt)), (λ k. say-without-async (row-says s body 0 words pool tag x (k .0))))

@@ -2,7 +2,7 @@
 use Prim.Native.Nat.{ℕ, _+_, _≤_}
 use native.Mathlib.Omega.{arith}
 use mathlib.Core.Path.{_≡_, sym, ap, _∙_, subst}
-use mathlib.Core.Bool.{Bool, true, false}
+use mathlib.Core.Bool.{Bool, true, false, cond}
 use mathlib.Core.List.{List, [], _∷_}
 use borrow.Author.Tests.{le-ltb, le-leb}
 use lib.Dec.{eqb, ltb, leb}
@@ -22,15 +22,17 @@ use Rattle.fields.specs.declared.Leaf.the-variants.{Fine, Bad}
 use Rattle.fields.specs.declared.Refusal.{Refusal}
 use Rattle.fields.specs.declared.Refusal.the-variants as refusal
 use Rattle.fields.specs.declared.Shape.{Shape}
-use Rattle.fields.specs.Binary.{pick, word, chars, indexed, bytes}
-use Rattle.fields.specs.Judge.{wide, then, below, unused, value, optionalValue, named, optionalIndex, choice, optionalName, reference, flaw, unless, judge}
-use Rattle.fields.specs.Row.{measuredFound, measuredRow}
-use Rattle.fields.specs.Run.{along}
+use Rattle.fields.specs.Words.{word, chars, indexed, wide}
+use Rattle.writing.specs.Binary.{bytes}
+use Rattle.writing.specs.Judge.{then, below, unused, value, optionalValue, named, optionalIndex, choice, optionalName, reference, flaw, unless, judge}
+use Rattle.writing.specs.Row.{measuredFound, measuredRow}
+use Rattle.fields.specs.inside.Run.{along}
 use Rattle.fields.specs.Shape.{rowWidth}
 use Rattle.fields.specs.Walk.{next}
-use Rattle.fields.specs.Write.{Left, left, judged, written, sized, measured, stored, writeShape}
-use Rattle.fields.specs.Write as write
-use Rattle.fields.proofs.PutLaws.{allFields, judged-along}
+use Rattle.fields.specs.Answers.{Left, left}
+use Rattle.writing.specs.Write.{judged, written, sized, measured, stored, writeShape}
+use Rattle.fields.specs.Answers as answers
+use Rattle.writing.proofs.PutLaws.{allFields, judged-along}
 use Rattle.types.specs.Write.{measuredType}
 use Rattle.imports.specs.Write.{measuredImport}
 use Rattle.canonicals.specs.Write.{measuredCanonical}
@@ -42,6 +44,7 @@ use Rattle.sections.specs.Section.{familyBytes, measuredFamily, opened, holds, 
 use Rattle.sections.specs.Steps.{Turn, turned, refused, refuse, taken, wrote, asyncIn, paramsIn, resultIn, abandonIn, rowing, opening, asyncing, paraming, resulting, abandoning}
 use Rattle.sections.proofs.FamilyLaws.{family-stored}
 use Rattle.sections.proofs.TurnLaws.{asyncShape, paramsShape, resultShape}
+use Rattle.numbers.proofs.Impossible.{impossible}
 
 -- ---- what is measured is never refused for room
 
@@ -75,7 +78,7 @@ AnswerOther (Size n) = Unit {0}
 AnswerOther (Refused w n) = Other w
 
 -- what holds both ways holds of a test
-both : {X : Type 0} (P : X → Type 0) (b : Bool) {x y : X} → P x → P y → P (pick b x y)
+both : {X : Type 0} (P : X → Type 0) (b : Bool) {x y : X} → P x → P y → P (cond b x y)
 both P true h k = h
 both P false h k = k
 
@@ -174,7 +177,8 @@ row-other found row pool =
 family-other : (family : ℕ) (row pool : List ℕ) → AnswerOther (measuredFamily family row pool)
 unfolding measuredFamily measuredType measuredCanonical measuredImport
 family-other family row pool =
-    both AnswerOther (eqb family 7) (row-other _ row pool) (both AnswerOther (eqb family 8) (row-other _ row pool) (row-other _ row pool))
+    both AnswerOther (eqb family 7) (row-other _ row pool)
+    (both AnswerOther (eqb family 8) (row-other _ row pool) (both AnswerOther (eqb family 10) (row-other _ row pool) tt))
 
 -- ---- a step as a function of the body
 
@@ -187,16 +191,16 @@ module _ (s : Section) (body : List ℕ) where
   refuse-again w o = record { tries = λ n e. let z : w ≡ refusal.Room = cc in absurd (subst Other z o) }
 
   -- a test that does not look at the body, and refuses; one that says whether the section can stand over it
-  unless-again : (b : Bool) (w : Refusal) {t : List ℕ → Turn} → Other w → Again s body t → Again s body (λ x. pick b (refuse s w x) (t x))
+  unless-again : (b : Bool) (w : Refusal) {t : List ℕ → Turn} → Other w → Again s body t → Again s body (λ x. cond b (refuse s w x) (t x))
   unless-again true w o k = refuse-again w o
   unless-again false w o k = k
 
-  sound-again : {t : List ℕ → Turn} → Again s body t → Again s body (λ x. pick (sounds s (length x)) (t x) (refuse s refusal.Limit x))
+  sound-again : {t : List ℕ → Turn} → Again s body t → Again s body (λ x. cond (sounds s (length x)) (t x) (refuse s refusal.Limit x))
   unfolding sounds
   sound-again {t} k = record { tries = λ n e. go n (ltb (length body) (s .used)) (holds (s .phase) s) e }
     where
       over : Bool → Bool → Turn → List ℕ → Turn
-      over b c x y = pick (pick b false c) x (refuse s refusal.Limit y)
+      over b c x y = cond (cond b false c) x (refuse s refusal.Limit y)
 
       go : (n : ℕ) (b c : Bool) → over b c (t body) body .gave .answer ≡ Refused refusal.Room n
           → (over b c (t body) body ≡ turned (refused s refusal.Room n) body)
@@ -204,8 +208,8 @@ module _ (s : Section) (body : List ℕ) where
       go n false true e =
           let h = k .tries n e in
           (h .0, λ new room. ap (λ b. over b true (t new) new .gave .answer) (le-ltb (length new) (s .used) (omega (arith, room))) ∙ h .1 new room)
-      go n false false e = let z : _≡_ {A = ℕ} 0 1 = cc in absurd (omega arith)
-      go n true c e = let z : _≡_ {A = ℕ} 0 1 = cc in absurd (omega arith)
+      go n false false e = impossible cc
+      go n true c e = impossible cc
 
   -- what is stored behind the used part
   stored-again : (r : Answer) (bs : List ℕ) (count : ℕ) (phase : Phase) → AnswerOther r
@@ -214,12 +218,12 @@ module _ (s : Section) (body : List ℕ) where
   stored-again (Size m) bs count phase o = record { tries = λ n e. go n (leb (s .used + m) (length body)) e }
     where
       at : Bool → List ℕ → Turn
-      at b x = wrote s count phase (pick b (left (Size m) (sets x (s .used) bs)) (write.refuse refusal.Room m x))
+      at b x = wrote s count phase (cond b (left (Size m) (sets x (s .used) bs)) (answers.refuse refusal.Room m x))
 
       go : (n : ℕ) (b : Bool) → at b body .gave .answer ≡ Refused refusal.Room n
           → (at b body ≡ turned (refused s refusal.Room n) body)
           × ((new : List ℕ) → s .used + n ≤ length new → at (leb (s .used + m) (length new)) new .gave .answer ≡ Size n)
-      go n true e = let z : _≡_ {A = ℕ} 0 1 = cc in absurd (omega arith)
+      go n true e = impossible cc
       go n false e =
           let q : m ≡ n = cc in (
             ap (λ k. turned (refused s refusal.Room k) body) q,
@@ -260,12 +264,12 @@ module _ (s : Section) (body : List ℕ) where
 
   abandon-again : (p : Phase) → Again s body (abandonIn p s)
   abandon-again Closed = refuse-again refusal.Order tt
-  abandon-again (Opened start) = record { tries = λ n e. let z : _≡_ {A = ℕ} 0 1 = cc in absurd (omega arith) }
-  abandon-again (Asynced start) = record { tries = λ n e. let z : _≡_ {A = ℕ} 0 1 = cc in absurd (omega arith) }
-  abandon-again (Parametered start) = record { tries = λ n e. let z : _≡_ {A = ℕ} 0 1 = cc in absurd (omega arith) }
+  abandon-again (Opened start) = record { tries = λ n e. impossible cc }
+  abandon-again (Asynced start) = record { tries = λ n e. impossible cc }
+  abandon-again (Parametered start) = record { tries = λ n e. impossible cc }
 
-  types-again : (b : Bool) → Again s body (λ x. pick b (turned (taken s (Size 0) (s .count + 1) (Opened (s .used))) x) (refuse s refusal.Kind x))
-  types-again true = record { tries = λ n e. let z : _≡_ {A = ℕ} 0 1 = cc in absurd (omega arith) }
+  types-again : (b : Bool) → Again s body (λ x. cond b (turned (taken s (Size 0) (s .count + 1) (Opened (s .used))) x) (refuse s refusal.Kind x))
+  types-again true = record { tries = λ n e. impossible cc }
   types-again false = refuse-again refusal.Kind tt
 
   turn-again : (k : Step) → Again s body (turn k s)

@@ -3,7 +3,7 @@ use Prim.Native.Nat.{ℕ, _+_, _-_, _≤_, _<_}
 use native.Mathlib.Omega.{arith}
 use mathlib.Core.Logic.{inl}
 use mathlib.Core.Path.{_≡_, refl, sym, ap, _∙_, subst}
-use mathlib.Core.Bool.{Bool, true, false}
+use mathlib.Core.Bool.{Bool, true, false, cond}
 use mathlib.Core.List.{List, [], _∷_}
 use borrow.Author.Tests.{eqb-true, lt-ltb, le-ltb, le-leb, eq-eqb}
 use lib.Dec.{eqb, ltb}
@@ -15,7 +15,6 @@ use Rattle.fields.specs.declared.Answer.the-variants.{Size}
 use Rattle.fields.specs.declared.Field.the-variants as field
 use Rattle.fields.specs.declared.Refusal.{Refusal}
 use Rattle.fields.specs.declared.Refusal.the-variants as refusal
-use Rattle.fields.specs.Binary.{pick}
 use Rattle.sections.specs.declared.Phase.{Phase}
 use Rattle.sections.specs.declared.Phase.the-variants.{Closed, Opened, Asynced, Parametered}
 use Rattle.sections.specs.declared.Section.{Section}
@@ -24,6 +23,7 @@ use Rattle.sections.specs.Section.{opened, holdsAt, holds, sounds}
 use Rattle.sections.specs.Steps.{Turn, turned, gives, refuse, taken, withdrawn, asyncIn, paramsIn, resultIn, abandonIn, opening, asyncing, paraming, resulting, abandoning}
 use Rattle.sections.proofs.TurnLaws.{Turns, refuses, stores, Grows, accepted-grows, either, asyncShape, paramsShape, resultShape, shape-turns, row-turns, open-turns}
 use Rattle.claims.specs.Steps.{StaysOpen, Restored}
+use Rattle.numbers.proofs.Impossible.{impossible}
 
 -- ---- an opening
 
@@ -37,17 +37,17 @@ pub record Ready (s : Section) (body : List ℕ) : Type 0 where
 -- a phase in which no entry is open
 pub is-closed : (p : Phase) → opened p ≡ false → p ≡ Closed
 is-closed Closed e = refl
-is-closed (Opened start) e = let z : _≡_ {A = ℕ} 0 1 = cc in absurd (omega arith)
-is-closed (Asynced start) e = let z : _≡_ {A = ℕ} 0 1 = cc in absurd (omega arith)
-is-closed (Parametered start) e = let z : _≡_ {A = ℕ} 0 1 = cc in absurd (omega arith)
+is-closed (Opened start) e = impossible cc
+is-closed (Asynced start) e = impossible cc
+is-closed (Parametered start) e = impossible cc
 
 module _ (s : Section) (body : List ℕ) where
   abbrev openedBy : Bool → Bool → Bool → Bool → Turn
   openedBy b c d e =
-      pick b
-      (pick c (refuse s refusal.Order body)
-      (pick d (refuse s refusal.Count body)
-      (pick e (turned (taken s (Size 0) (s .count + 1) (Opened (s .used))) body) (refuse s refusal.Kind body))))
+      cond b
+      (cond c (refuse s refusal.Order body)
+      (cond d (refuse s refusal.Count body)
+      (cond e (turned (taken s (Size 0) (s .count + 1) (Opened (s .used))) body) (refuse s refusal.Kind body))))
       (refuse s refusal.Limit body)
 
   pub open-ready : Accepted (opening s body) → Ready s body
@@ -106,7 +106,7 @@ module _ {s : Section} {body : List ℕ} {t : Section} {new : List ℕ} (k : Ins
   inside-sounds o = simp (le-ltb (length new) (t .used) (k .within)) (go (t .phase) o inside-holds)
     where
       go : (p : Phase) → opened p ≡ true → holdsAt t (startOf p) ≡ true → holds p t ≡ true
-      go Closed o h = let z : _≡_ {A = ℕ} 0 1 = cc in absurd (omega arith)
+      go Closed o h = impossible cc
       go (Opened start) o h = h
       go (Asynced start) o h = h
       go (Parametered start) o h = h
@@ -160,7 +160,7 @@ module _ {s : Section} {body : List ℕ} {t : Section} {new : List ℕ} (k : Ins
   -- what closes the entry does not leave it open
   turns-close : {r : Answer} {bs : List ℕ} {count : ℕ} {x : Turn} → Turns t new r bs count Closed x → Stays s body x
   turns-close (refuses w n) = λ o. k
-  turns-close (stores r h) = λ o. let z : _≡_ {A = ℕ} 0 1 = cc in absurd (omega arith)
+  turns-close (stores r h) = λ o. impossible cc
 
   async-stays : (a : ℕ) (p : Phase) → startOf p ≡ s .used → Stays s body (asyncIn p t a new)
   async-stays a Closed e = λ o. k
@@ -184,13 +184,13 @@ module _ {s : Section} {body : List ℕ} {t : Section} {new : List ℕ} (k : Ins
 
   abandon-stays : (p : Phase) → Stays s body (abandonIn p t new)
   abandon-stays Closed = λ o. k
-  abandon-stays (Opened start) = λ o. let z : _≡_ {A = ℕ} 0 1 = cc in absurd (omega arith)
-  abandon-stays (Asynced start) = λ o. let z : _≡_ {A = ℕ} 0 1 = cc in absurd (omega arith)
-  abandon-stays (Parametered start) = λ o. let z : _≡_ {A = ℕ} 0 1 = cc in absurd (omega arith)
+  abandon-stays (Opened start) = λ o. impossible cc
+  abandon-stays (Asynced start) = λ o. impossible cc
+  abandon-stays (Parametered start) = λ o. impossible cc
 
-  refused-stays : (b : Bool) (w : Refusal) (x : Turn) → b ≡ true → Stays s body (pick b (refuse t w new) x)
+  refused-stays : (b : Bool) (w : Refusal) (x : Turn) → b ≡ true → Stays s body (cond b (refuse t w new) x)
   refused-stays true w x e = λ o. k
-  refused-stays false w x e = let z : _≡_ {A = ℕ} 0 1 = cc in absurd (omega arith)
+  refused-stays false w x e = impossible cc
 
   -- each of the six, where the entry was open before it
   turn-stays : (x : Step) → opened (t .phase) ≡ true → Stays s body (turn x t new)
@@ -233,7 +233,7 @@ abandon-back s body t new c f k o = simp (inside-sounds k o) (go (t .phase) (k .
         λ i. turned (gives (record { family = (k .types ∙ sym f) i; used = e i; count = n i; phase = sym c i }) (Size 0)) new
 
     go : (p : Phase) → startOf p ≡ s .used → opened p ≡ true → abandonIn p t new ≡ turned (gives s (Size 0)) new
-    go Closed e o = let z : _≡_ {A = ℕ} 0 1 = cc in absurd (omega arith)
+    go Closed e o = impossible cc
     go (Opened start) e o = back start e
     go (Asynced start) e o = back start e
     go (Parametered start) e o = back start e

@@ -8,11 +8,11 @@ use denote.Ref.{RefT, now}
 use denote.Triple.Clauses.{Ended}
 use denote.Triple.Entry.{Args, Res}
 use borrow.Fn.World.{w₀}
-use Rattle.fields.specs.Write.{numberOf}
+use Rattle.fields.specs.Answers.{numberOf}
 use Rattle.types.proofs.write as call-write-type
-use Rattle.types.proofs.read as call-read-type
+use Rattle.items.proofs.read_type as call-read-type
 use Rattle.imports.proofs.write as call-write-import
-use Rattle.imports.proofs.read as call-read-import
+use Rattle.items.proofs.read_import as call-read-import
 use Rattle.canonicals.proofs.write as call-write-canonical
 use Rattle.sections.specs.declared.Section.{Section}
 use Rattle.sections.proofs.Section.row as call-row

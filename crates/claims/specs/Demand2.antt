@@ -8,8 +8,9 @@ use lib.ListN.{length}
 use lib.Seq.{sets}
 use Rattle.numbers.specs.Bytes.{Bytes}
 use Rattle.fields.specs.declared.Answer.the-variants.{Size}
-use Rattle.fields.specs.Binary.{Words}
-use Rattle.fields.specs.Write.{left, stored}
+use Rattle.fields.specs.Words.{Words}
+use Rattle.fields.specs.Answers.{left}
+use Rattle.writing.specs.Write.{stored}
 use Rattle.sections.specs.declared.Phase.the-variants.{Closed}
 use Rattle.sections.specs.Finish.{finishing}
 use Rattle.sections.specs.Runs.{Entry, rows, runs, AllAccepted}
@@ -18,6 +19,10 @@ use Rattle.sections.specs.Steps.{turned, gives, rowing}
 use Rattle.sheets.specs.Sheet as sheet
 use Rattle.sheets.specs.Sheet.{sheeted}
 use Rattle.claims.specs.Valid.{Family, Takes, Valid, production, productions, section, entries, familyIn}
+use Rattle.writing.specs.Agree.{Agrees, All}
+use Rattle.types.specs.Table as typeTable
+use Rattle.imports.specs.Table as importTable
+use Rattle.canonicals.specs.Table as canonicalTable
 
 -- each of the rows is valid
 abbrev pub AllValid : ℕ → List Entry → Type 0
@@ -38,6 +43,8 @@ pub record Made (es : List Entry) (body out : List ℕ) (l : sheet.Left) : Type 
   pub at-out : l .out ≡ sets out 0 (section (familyIn es) es)
 
 pub record Demand2 : Type 0 where
+  -- in each table a kind's shape writes what the production beside it says
+  pub tables-agree : All Agrees typeTable.table × All Agrees importTable.table × All Agrees canonicalTable.table
   -- a row is valid, over a body with room, exactly when measuring gives a size that fits
   pub valid-measured : (family : ℕ) → Family family → (row pool body : List ℕ)
       → Takes family row pool body ↔ ((size : ℕ) × (measuredFamily family row pool ≡ Size size) × (size ≤ length body))

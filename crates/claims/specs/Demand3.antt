@@ -1,8 +1,8 @@
 -- Demand 3: what was written of a valid row, with anything behind it, is read back at every grade as that item, or refused as NEWER at
 -- the first byte that marks a form above the grade; and no other item is ever returned for it.
-use Prim.Native.Nat.{ℕ, _≤_, _<_, _^_}
+use Prim.Native.Nat.{ℕ, _≤_, _<_}
 use mathlib.Core.Path.{_≡_}
-use mathlib.Core.Bool.{Bool, true, false}
+use mathlib.Core.Bool.{cond}
 use mathlib.Core.Logic.{_⊎_}
 use mathlib.Core.List.{List, [], _∷_, _++_}
 use lib.Dec.{eqb}
@@ -14,18 +14,19 @@ use Rattle.fields.specs.declared.Found.{Found}
 use Rattle.fields.specs.declared.Found.the-variants.{Is, Not}
 use Rattle.fields.specs.declared.Read.the-variants.{Item, Refused}
 use Rattle.fields.specs.declared.Refusal.the-variants as refusal
-use Rattle.fields.specs.Binary.{pick, word, Words}
-use Rattle.fields.specs.Mark.{Mark, Clear, At, SameItem}
-use Rattle.fields.specs.Read.{LeftRow, leftRow}
-use Rattle.fields.specs.Scan.{byte}
-use Rattle.fields.specs.Write.{stored}
-use Rattle.types.specs.Read.{readType, typeMark}
+use Rattle.fields.specs.Words.{word, Words}
+use Rattle.round_trip.specs.Mark.{Mark, Clear, At, rowMark, SameItem}
+use Rattle.fields.specs.Answers.{LeftRow, leftRow}
+use Rattle.reading.specs.Scan.{byte}
+use Rattle.writing.specs.Write.{stored}
+use Rattle.items.specs.ReadType.{readType, leadGrade}
 use Rattle.types.specs.Write as typeWrite
-use Rattle.imports.specs.Read.{readImport, importMark}
+use Rattle.items.specs.ReadImport.{readImport}
 use Rattle.imports.specs.Write as importWrite
 use Rattle.sections.specs.Section.{writeFamily}
 use Rattle.claims.specs.Numbers.{Among}
 use Rattle.claims.specs.Valid.{Valid, production}
+use Rattle.fields.specs.Limits.{poolBytes, inputBytes}
 
 -- the families that are read, each by its own call
 pub data Readable : ℕ → Type 0 where
@@ -33,7 +34,7 @@ pub data Readable : ℕ → Type 0 where
   imports : Readable 10
 
 abbrev pub reads : ℕ → ℕ → List ℕ → List ℕ → LeftRow
-reads family g input room = pick (eqb family 7) (readType g input room) (readImport g input room)
+reads family g input room = cond (eqb family 7) (readType g input room) (readImport g input room)
 
 -- "same item" as the row, whose kind has a shape
 abbrev pub SameBy : Found → List ℕ → List ℕ → List ℕ → List ℕ → Type 0
@@ -41,18 +42,24 @@ SameBy (Is s) pool row input words = SameItem s pool row input words
 SameBy Not pool row input words = ⊥
 
 abbrev pub Same : ℕ → List ℕ → List ℕ → List ℕ → List ℕ → Type 0
-Same family pool row input words = SameBy (pick (eqb family 7) (typeWrite.shapeOf (word row 0)) (importWrite.shapeOf (word row 0))) pool row input words
+Same family pool row input words = SameBy (cond (eqb family 7) (typeWrite.shapeOf (word row 0)) (importWrite.shapeOf (word row 0))) pool row input words
 
--- the row's first byte above the grade, found of the row alone
+-- the first byte above a grade that a row has: of a type, and of an import, found of the row alone
+unfoldable pub typeMark : ℕ → List ℕ → List ℕ → Mark
+typeMark g pool row = rowMark (typeWrite.shapeOf (word row 0)) (leadGrade (word row 0)) g pool row
+
+unfoldable pub importMark : ℕ → List ℕ → List ℕ → Mark
+importMark g pool row = rowMark (importWrite.shapeOf (word row 0)) 1 g pool row
+
 abbrev pub firstAbove : ℕ → ℕ → List ℕ → List ℕ → Mark
-firstAbove family g pool row = pick (eqb family 7) (typeMark g pool row) (importMark g pool row)
+firstAbove family g pool row = cond (eqb family 7) (typeMark g pool row) (importMark g pool row)
 
 -- the bytes that mark a form of grade 2: 43, 64, 65, 66; and of grade 3: 63, 67 and an import's 02
 abbrev pub markTwo : ℕ → List ℕ
-markTwo family = pick (eqb family 7) (0x43 ∷ 0x64 ∷ 0x65 ∷ 0x66 ∷ []) (0x64 ∷ [])
+markTwo family = cond (eqb family 7) (0x43 ∷ 0x64 ∷ 0x65 ∷ 0x66 ∷ []) (0x64 ∷ [])
 
 abbrev pub markThree : ℕ → List ℕ
-markThree family = pick (eqb family 7) (0x63 ∷ 0x67 ∷ []) (0x02 ∷ [])
+markThree family = cond (eqb family 7) (0x63 ∷ 0x67 ∷ []) (0x02 ∷ [])
 
 -- b marks a form above grade g
 abbrev pub Marking : ℕ → ℕ → ℕ → Type 0
@@ -88,7 +95,7 @@ otherWords = 7 ∷ 2 ∷ 6 ∷ 1 ∷ 4 ∷ 2 ∷ []
 pub record Demand3 : Type 0 where
   -- every valid row, every following bytes up to the limit, every grade and room
   pub read-back : (family : ℕ) → Readable family → (row pool : List ℕ) → Words row → Valid family row pool
-      → (rest room : List ℕ) (g : ℕ) → 1 ≤ g → g ≤ 3 → length (production family pool row ++ rest) ≤ 2 ^ 30
+      → (rest room : List ℕ) (g : ℕ) → 1 ≤ g → g ≤ 3 → length (production family pool row ++ rest) ≤ inputBytes
       → ReadBack (firstAbove family g pool row) family pool row (production family pool row ++ rest) room
       (reads family g (production family pool row ++ rest) room)
   -- whatever a reader of any grade returns for a valid row's bytes is that item
@@ -103,7 +110,7 @@ pub record Demand3 : Type 0 where
       → (j < length (production family pool row)) × Marking family g (byte (production family pool row) j)
   -- what is accepted and took at most 65,536 bytes, written again with those bytes as the pool, is exactly those bytes
   pub written-again : (family : ℕ) → Readable family → (input room after : List ℕ) (g words bytes : ℕ) → Bytes input
-      → reads family g input room ≡ leftRow (Item words bytes) after → bytes ≤ 65536 → (out : List ℕ) (at : ℕ)
+      → reads family g input room ≡ leftRow (Item words bytes) after → bytes ≤ poolBytes → (out : List ℕ) (at : ℕ)
       → writeFamily family (take words after) (take bytes input) out at ≡ stored (Size bytes) (take bytes input) out at
   -- "same item" is not met by names that only run together alike: the flags are written as those bytes, and the other words are not the
   -- same item

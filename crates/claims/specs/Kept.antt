@@ -14,12 +14,13 @@ use Rattle.fields.specs.declared.Answer.{Answer}
 use Rattle.fields.specs.declared.Found.{Found}
 use Rattle.fields.specs.declared.Read.{Read}
 use Rattle.fields.specs.declared.Read.the-variants as read
-use Rattle.fields.specs.Binary.{valtype}
-use Rattle.fields.specs.Read.{LeftRow, readItem}
-use Rattle.fields.specs.Write.{numberOfRefusal, numberOf, valueOf, Left, writeShape}
-use Rattle.types.specs.Read.{readType}
+use Rattle.writing.specs.Binary.{valtype}
+use Rattle.fields.specs.Answers.{LeftRow, numberOfRefusal, numberOf, valueOf, Left}
+use Rattle.reading.specs.Read.{readItem}
+use Rattle.writing.specs.Write.{writeShape}
+use Rattle.items.specs.ReadType.{readType}
 use Rattle.types.specs.Write.{writeType, asyncShape, paramsShape, resultShape}
-use Rattle.imports.specs.Read.{readImport}
+use Rattle.items.specs.ReadImport.{readImport}
 use Rattle.imports.specs.Write.{writeImport}
 use Rattle.canonicals.specs.Write.{writeCanonical}
 use Rattle.sections.specs.declared.Phase.{Phase}

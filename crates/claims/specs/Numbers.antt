@@ -9,13 +9,14 @@ use Rattle.numbers.specs.Leb.{unsigned, signed, takeUnsigned, takeSigned}
 use Rattle.numbers.specs.Numbers as numbers
 use Rattle.fields.specs.declared.Found.{Found}
 use Rattle.fields.specs.declared.Shape.{Shape}
-use Rattle.fields.specs.Binary.{valtype}
-use Rattle.fields.specs.Read.{scannedItem, refusalOf}
-use Rattle.fields.specs.Row.{measuredRow}
-use Rattle.fields.specs.Write.{numberOf, measured, writeShape}
-use Rattle.types.specs.Read.{readType}
+use Rattle.writing.specs.Binary.{valtype}
+use Rattle.reading.specs.Read.{scannedItem, refusalOf}
+use Rattle.writing.specs.Row.{measuredRow}
+use Rattle.fields.specs.Answers.{numberOf}
+use Rattle.writing.specs.Write.{measured, writeShape}
+use Rattle.items.specs.ReadType.{readType}
 use Rattle.types.specs.Write.{measuredType, writeType, asyncShape, paramsShape, resultShape}
-use Rattle.imports.specs.Read.{readImport}
+use Rattle.items.specs.ReadImport.{readImport}
 use Rattle.imports.specs.Write.{measuredImport, writeImport}
 use Rattle.canonicals.specs.Write.{measuredCanonical, writeCanonical}
 use Rattle.sections.specs.declared.Section.{Section}

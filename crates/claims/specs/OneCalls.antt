@@ -18,14 +18,14 @@ use Rattle.numbers.proofs.leb.seen_signed as call-seen-signed
 use Rattle.numbers.proofs.leb.short_signed as call-short-signed
 use Rattle.numbers.proofs.text.is_text as call-is-text
 use Rattle.fields.proofs.is_indexed as call-is-indexed
-use Rattle.fields.proofs.row.kind_of as call-kind-of
-use Rattle.fields.proofs.row.two_of as call-two-of
-use Rattle.fields.proofs.row.many_of as call-many-of
-use Rattle.fields.proofs.row.measure_row as call-measure-row
-use Rattle.fields.proofs.wall.number_of as call-number-of
-use Rattle.fields.proofs.write.measure_shape as call-measure-shape
+use Rattle.fields.proofs.kind_of as call-kind-of
+use Rattle.fields.proofs.two_of as call-two-of
+use Rattle.fields.proofs.many_of as call-many-of
+use Rattle.writing.proofs.measure_row as call-measure-row
+use Rattle.fields.proofs.number_of as call-number-of
+use Rattle.writing.proofs.measure_shape as call-measure-shape
 use Rattle.fields.proofs.first_of as call-first-of
-use Rattle.fields.proofs.item_refusal as call-item-refusal
+use Rattle.reading.proofs.item_refusal as call-item-refusal
 use Rattle.writing.proofs.fits as call-fits
 use Rattle.writing.proofs.value_size as call-value-size
 use Rattle.writing.proofs.name_size as call-name-size
@@ -38,15 +38,17 @@ use Rattle.reading.proofs.result as call-read-result
 use Rattle.reading.proofs.name as call-read-name
 use Rattle.reading.proofs.is_within as call-is-within
 use Rattle.reading.proofs.has_room as call-has-room
+use Rattle.types.proofs.shape_of as call-shape-of-type
 use Rattle.types.proofs.measure as call-measure-type
 use Rattle.types.proofs.write as call-write-type
-use Rattle.types.proofs.read as call-read-type
+use Rattle.items.proofs.read_type as call-read-type
 use Rattle.types.proofs.steps.write_async as call-write-async
 use Rattle.types.proofs.steps.write_params as call-write-params
 use Rattle.types.proofs.steps.write_result as call-write-result
+use Rattle.imports.proofs.shape_of as call-shape-of-import
 use Rattle.imports.proofs.measure as call-measure-import
 use Rattle.imports.proofs.write as call-write-import
-use Rattle.imports.proofs.read as call-read-import
+use Rattle.items.proofs.read_import as call-read-import
 use Rattle.canonicals.proofs.measure as call-measure-canonical
 use Rattle.canonicals.proofs.write as call-write-canonical
 use Rattle.sections.proofs.write_by as call-write-by
@@ -76,6 +78,26 @@ use Rattle.cabi.proofs.tb_params as call-tb-params
 use Rattle.cabi.proofs.tb_result as call-tb-result
 use Rattle.cabi.proofs.tb_abandon as call-tb-abandon
 use Rattle.cabi.proofs.tb_finish as call-tb-finish
+use Rattle.telling.proofs.say as call-say
+use Rattle.telling.proofs.say_line as call-say-line
+use Rattle.telling.proofs.say_number as call-say-number
+use Rattle.telling.proofs.say_field as call-say-field
+use Rattle.telling.proofs.say_count as call-say-count
+use Rattle.telling.proofs.say_bytes as call-say-bytes
+use Rattle.telling.proofs.say_name as call-say-name
+use Rattle.telling.proofs.say_meaning as call-say-meaning
+use Rattle.telling.proofs.say_refusal as call-say-refusal
+use Rattle.telling.proofs.starts_with as call-starts-with
+use Rattle.telling.proofs.next_of as call-next-of
+use Rattle.telling.proofs.size_after as call-size-after
+use Rattle.telling.proofs.number_at as call-number-at
+use Rattle.telling.proofs.words_of as call-words-of
+use Rattle.telling.proofs.word as call-word
+use Rattle.telling.proofs.word_of as call-word-of
+use Rattle.telling.proofs.pattern as call-pattern
+use Rattle.telling.proofs.fill as call-fill
+use Rattle.telling.proofs.is_kept as call-is-kept
+use Rattle.telling.proofs.end_line as call-end-line
 use Rattle.numbers.proofs.bytes.part as call-part
 use Rattle.claims.specs.One.{Contract, Outcome, Ghost, says, OneOutcome, OneSeen}
 
@@ -98,18 +120,18 @@ pub record NoSecondOutcome : Type 2 where
   pub kind-of : OneOutcome call-kind-of.ended (λ M. call-kind-of.clauses)
   pub two-of : OneOutcome call-two-of.ended (λ M. call-two-of.clauses)
   pub many-of : OneOutcome call-many-of.ended (λ M. call-many-of.clauses)
-  pub measure-row : OneOutcome call-measure-row.ended (λ M. call-measure-row.clauses)
   pub number-of : OneOutcome call-number-of.ended (λ M. call-number-of.clauses)
-  pub measure-shape : OneOutcome call-measure-shape.ended (λ M. call-measure-shape.clauses)
   pub first-of : OneOutcome call-first-of.ended (λ M. call-first-of.clauses)
-  pub item-refusal : OneOutcome call-item-refusal.ended (λ M. call-item-refusal.clauses)
   -- writing
+  pub measure-row : OneOutcome call-measure-row.ended (λ M. call-measure-row.clauses)
+  pub measure-shape : OneOutcome call-measure-shape.ended (λ M. call-measure-shape.clauses)
   pub fits : OneOutcome call-fits.ended (λ M. call-fits.clauses)
   pub value-size : OneOutcome call-value-size.ended (λ M. call-value-size.clauses)
   pub name-size : OneOutcome call-name-size.ended (λ M. call-name-size.clauses)
   pub put-value : OneOutcome call-put-value.ended (λ M. call-put-value.clauses)
   pub put-name : OneOutcome call-put-name.ended (λ M. call-put-name.clauses)
   -- reading
+  pub item-refusal : OneOutcome call-item-refusal.ended (λ M. call-item-refusal.clauses)
   pub read-primitive : OneOutcome call-read-primitive.ended (λ M. call-read-primitive.clauses)
   pub read-value : OneOutcome call-read-value.ended (λ M. call-read-value.clauses)
   pub read-optional : OneOutcome call-read-optional.ended (λ M. call-read-optional.clauses)
@@ -118,19 +140,22 @@ pub record NoSecondOutcome : Type 2 where
   pub is-within : OneOutcome call-is-within.ended (λ M. call-is-within.clauses)
   pub has-room : OneOutcome call-has-room.ended (λ M. call-has-room.clauses)
   -- types
+  pub shape-of-type : OneOutcome call-shape-of-type.ended (λ M. call-shape-of-type.clauses)
   pub measure-type : OneOutcome call-measure-type.ended (λ M. call-measure-type.clauses)
   pub write-type : OneOutcome call-write-type.ended (λ M. call-write-type.clauses)
-  pub read-type : OneOutcome call-read-type.ended (λ M. call-read-type.clauses)
   pub write-async : OneOutcome call-write-async.ended (λ M. call-write-async.clauses)
   pub write-params : OneOutcome call-write-params.ended (λ M. call-write-params.clauses)
   pub write-result : OneOutcome call-write-result.ended (λ M. call-write-result.clauses)
   -- imports
+  pub shape-of-import : OneOutcome call-shape-of-import.ended (λ M. call-shape-of-import.clauses)
   pub measure-import : OneOutcome call-measure-import.ended (λ M. call-measure-import.clauses)
   pub write-import : OneOutcome call-write-import.ended (λ M. call-write-import.clauses)
-  pub read-import : OneOutcome call-read-import.ended (λ M. call-read-import.clauses)
   -- canonicals
   pub measure-canonical : OneOutcome call-measure-canonical.ended (λ M. call-measure-canonical.clauses)
   pub write-canonical : OneOutcome call-write-canonical.ended (λ M. call-write-canonical.clauses)
+  -- items
+  pub read-type : OneOutcome call-read-type.ended (λ M. call-read-type.clauses)
+  pub read-import : OneOutcome call-read-import.ended (λ M. call-read-import.clauses)
   -- sections
   pub write-by : OneOutcome call-write-by.ended (λ M. call-write-by.clauses)
   pub new : OneOutcome call-new.ended (λ M. call-new.clauses)
@@ -162,6 +187,27 @@ pub record NoSecondOutcome : Type 2 where
   pub tb-result : OneOutcome call-tb-result.ended (λ M. call-tb-result.clauses)
   pub tb-abandon : OneOutcome call-tb-abandon.ended (λ M. call-tb-abandon.clauses)
   pub tb-finish : OneOutcome call-tb-finish.ended (λ M. call-tb-finish.clauses)
+  -- telling: what is printed is no part of an outcome
+  pub say : OneOutcome call-say.ended (λ M. call-say.clauses)
+  pub say-line : OneOutcome call-say-line.ended (λ M. call-say-line.clauses)
+  pub say-number : OneOutcome call-say-number.ended (λ M. call-say-number.clauses)
+  pub say-field : OneOutcome call-say-field.ended (λ M. call-say-field.clauses)
+  pub say-count : OneOutcome call-say-count.ended (λ M. call-say-count.clauses)
+  pub say-bytes : OneOutcome call-say-bytes.ended (λ M. call-say-bytes.clauses)
+  pub say-name : OneOutcome call-say-name.ended (λ M. call-say-name.clauses)
+  pub say-meaning : OneOutcome call-say-meaning.ended (λ M. call-say-meaning.clauses)
+  pub say-refusal : OneOutcome call-say-refusal.ended (λ M. call-say-refusal.clauses)
+  pub starts-with : OneOutcome call-starts-with.ended (λ M. call-starts-with.clauses)
+  pub next-of : OneOutcome call-next-of.ended (λ M. call-next-of.clauses)
+  pub size-after : OneOutcome call-size-after.ended (λ M. call-size-after.clauses)
+  pub number-at : OneOutcome call-number-at.ended (λ M. call-number-at.clauses)
+  pub words-of : OneOutcome call-words-of.ended (λ M. call-words-of.clauses)
+  pub word : OneOutcome call-word.ended (λ M. call-word.clauses)
+  pub word-of : OneOutcome call-word-of.ended (λ M. call-word-of.clauses)
+  pub pattern : OneOutcome call-pattern.ended (λ M. call-pattern.clauses)
+  pub fill : OneOutcome call-fill.ended (λ M. call-fill.clauses)
+  pub is-kept : OneOutcome call-is-kept.ended (λ M. call-is-kept.clauses)
+  pub end-line : OneOutcome call-end-line.ended (λ M. call-end-line.clauses)
   -- the exception: of a part the bytes are told, and not where it stands (input 61 61, start 0, size 1: either byte's place)
   pub part : OneSeen call-part.ended (λ M. call-part.clauses) (λ κs a x. now (x .0))
   -- it is an exception indeed: as they stand, its clauses leave the place open

@@ -24,8 +24,8 @@ byRow a words pool tag x = Row (functionRow a words tag x) pool ∷ []
 abbrev pub bySteps : ℕ → List ℕ → List ℕ → ℕ → ℕ → List Step
 bySteps a words pool tag x = Open ∷ Async a ∷ Params words pool ∷ Result tag x ∷ []
 
-abbrev pub byPlainSteps : List ℕ → List ℕ → ℕ → ℕ → List Step
-byPlainSteps words pool tag x = Open ∷ Params words pool ∷ Result tag x ∷ []
+abbrev pub byStepsWithoutAsync : List ℕ → List ℕ → ℕ → ℕ → List Step
+byStepsWithoutAsync words pool tag x = Open ∷ Params words pool ∷ Result tag x ∷ []
 
 -- an entry is open before each of the steps and behind the last
 abbrev pub StaysOpen : List Step → Section → List ℕ → Type 0
@@ -43,8 +43,8 @@ pub record StepsAreRows : Type 0 where
   -- in order and with room, exactly when the row is, where both keep within the limit on words
   pub steps-accepted : (s : Section) (a : ℕ) (words pool : List ℕ) (tag x : ℕ) (body : List ℕ) → length words ≤ 16380
       → AllAccepted (bySteps a words pool tag x) s body ↔ AllAccepted (byRow a words pool tag x) s body
-  pub plain-steps-accepted : (s : Section) (words pool : List ℕ) (tag x : ℕ) (body : List ℕ) → length words ≤ 16380
-      → AllAccepted (byPlainSteps words pool tag x) s body ↔ AllAccepted (byRow 0 words pool tag x) s body
+  pub steps-without-async-accepted : (s : Section) (words pool : List ℕ) (tag x : ℕ) (body : List ℕ) → length words ≤ 16380
+      → AllAccepted (byStepsWithoutAsync words pool tag x) s body ↔ AllAccepted (byRow 0 words pool tag x) s body
   -- past that limit, which is of 4,095 parameters, the row is LIMIT
   pub row-too-long : (s : Section) (a : ℕ) (words pool : List ℕ) (tag x : ℕ) (body : List ℕ) → 16380 < length words
       → turn (Row (functionRow a words tag x) pool) s body ≡ refuse s refusal.Limit body
@@ -52,9 +52,9 @@ pub record StepsAreRows : Type 0 where
   pub steps-are-row : (s : Section) (a : ℕ) (words pool : List ℕ) (tag x : ℕ) (body : List ℕ)
       → AllAccepted (bySteps a words pool tag x) s body → AllAccepted (byRow a words pool tag x) s body
       → runs (bySteps a words pool tag x) s body ≡ runs (byRow a words pool tag x) s body
-  pub plain-steps-are-row : (s : Section) (words pool : List ℕ) (tag x : ℕ) (body : List ℕ)
-      → AllAccepted (byPlainSteps words pool tag x) s body → AllAccepted (byRow 0 words pool tag x) s body
-      → runs (byPlainSteps words pool tag x) s body ≡ runs (byRow 0 words pool tag x) s body
+  pub steps-without-async-are-row : (s : Section) (words pool : List ℕ) (tag x : ℕ) (body : List ℕ)
+      → AllAccepted (byStepsWithoutAsync words pool tag x) s body → AllAccepted (byRow 0 words pool tag x) s body
+      → runs (byStepsWithoutAsync words pool tag x) s body ≡ runs (byRow 0 words pool tag x) s body
   -- open, any steps while the entry is open, abandon: state and used part as before
   pub abandoned : (s : Section) (body : List ℕ) (steps : List Step) → Accepted (turn Open s body)
       → StaysOpen steps (turn Open s body .gave .section) (turn Open s body .body) → Restored s body steps

@@ -1,12 +1,12 @@
 -- Rows that are valid beside their pools, by document 01's words; the productions of the binary document that they stand for; and the
 -- rows of a sheet.
 use Prim.Native.Nat.{ℕ, _+_}
-use mathlib.Core.Bool.{Bool, true, false}
+use mathlib.Core.Bool.{Bool, true, false, cond}
 use mathlib.Core.List.{List, [], _∷_, _++_}
 use lib.Dec.{eqb}
 use lib.ListN.{length, drop}
 use Rattle.numbers.specs.Leb.{unsigned}
-use Rattle.fields.specs.Binary.{pick, word}
+use Rattle.fields.specs.Words.{word}
 use Rattle.fields.specs.Table.{productionIn}
 use Rattle.types.specs.Table as typeTable
 use Rattle.imports.specs.Table as importTable
@@ -17,7 +17,7 @@ use Rattle.sections.specs.Section.{fresh}
 use Rattle.sections.specs.Steps.{rowing}
 use Rattle.sheets.specs.Frame as frame
 use Rattle.sheets.specs.Sheet.{familyOf}
-use Rattle.sheets.specs.Steps.{listed}
+use Rattle.sheets.specs.Frame.{listed}
 
 -- a section's family: type 7, canonical 8, import 10
 pub data Family : ℕ → Type 0 where
@@ -36,9 +36,9 @@ Valid family row pool = (body : List ℕ) × Takes family row pool body
 -- the production of the row's kind, over the words after it; lift is no line of the table
 unfoldable pub production : ℕ → List ℕ → List ℕ → List ℕ
 production family pool row =
-    pick (eqb family 7) (productionIn typeTable.table (word row 0) pool (drop 1 row))
-    (pick (eqb family 8)
-    (pick (eqb (word row 0) 256) (canonicalTable.lift (drop 1 row)) (productionIn canonicalTable.table (word row 0) pool (drop 1 row)))
+    cond (eqb family 7) (productionIn typeTable.table (word row 0) pool (drop 1 row))
+    (cond (eqb family 8)
+    (cond (eqb (word row 0) 256) (canonicalTable.lift (drop 1 row)) (productionIn canonicalTable.table (word row 0) pool (drop 1 row)))
     (productionIn importTable.table (word row 0) pool (drop 1 row)))
 
 -- those of rows, one after the other

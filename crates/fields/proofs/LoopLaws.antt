@@ -8,13 +8,9 @@ use Rattle.fields.specs.declared.Field.{Field}
 use Rattle.fields.specs.declared.Refusal.{Refusal}
 use Rattle.fields.specs.declared.Leaf.{Leaf}
 use Rattle.fields.specs.declared.Leaf.the-variants.{Fine, Bad}
-use Rattle.fields.specs.Run.{along, after}
+use Rattle.fields.specs.inside.Run.{along, onward, after}
 use Rattle.fields.specs.Shape.{repeated}
 use Rattle.fields.proofs.RunLaws.{along-append}
-
--- the fields from `at` of xs on
-abbrev pub onward : (Field → List ℕ → Leaf) → List ℕ → List Field → ℕ → ℕ → Leaf
-onward L xs fs at made = along L fs (drop at xs) at made
 
 -- one field, which l says of what stands at `at`
 module _ (L : Field → List ℕ → Leaf) (xs : List ℕ) (f : Field) (at made : ℕ) (ys : List ℕ) (here : ys ≡ drop at xs) (l : Leaf) (el : l ≡ L f ys) where

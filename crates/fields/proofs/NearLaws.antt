@@ -5,7 +5,7 @@ use mathlib.Core.Path.{_≡_, sym, ap, _∙_}
 use mathlib.Core.List.{List}
 use lib.ListN.{drop}
 use lib.Seq.{getD-drop}
-use Rattle.fields.specs.Binary.{word}
+use Rattle.fields.specs.Words.{word}
 
 -- the two words at `at`, and as the first of the row from there on
 module _ (row : List ℕ) (at : ℕ) where

@@ -7,7 +7,7 @@ use mathlib.Core.List.{List, [], _∷_, _++_}
 use lib.ListN.{length, length-append}
 use Rattle.fields.specs.declared.Field.{Field}
 use Rattle.fields.specs.declared.Field.the-variants as field
-use Rattle.fields.specs.Judge.{wide}
+use Rattle.fields.specs.Words.{wide}
 use Rattle.fields.specs.Shape.{repeated, widths}
 
 pub wide-small : (f : Field) → wide f ≤ 11

@@ -1,5 +1,5 @@
 -- A table of kinds: a line has the kind, its shape, and its production in the binary document over the words after the kind.
-use mathlib.Core.Bool.{Bool, true, false}
+use mathlib.Core.Bool.{Bool, true, false, cond}
 use mathlib.Core.List.{List, [], _∷_, _++_}
 use Prim.Native.Nat.{ℕ, zero, suc, _+_}
 use lib.Dec.{eqb}
@@ -10,7 +10,7 @@ use Rattle.fields.specs.declared.Field.the-variants as field
 use Rattle.fields.specs.declared.Found.{Found}
 use Rattle.fields.specs.declared.Found.the-variants.{Is, Not}
 use Rattle.fields.specs.declared.Shape.{Shape}
-use Rattle.fields.specs.Binary.{pick, word}
+use Rattle.fields.specs.Words.{word}
 
 pub record Line : Type 0 where
   pub kind : ℕ
@@ -33,11 +33,11 @@ manyOf l z a c d e =
 -- the shape and the production of a kind
 unfoldable pub shapeIn : List Line → ℕ → Found
 shapeIn [] k = Not
-shapeIn (l ∷ ls) k = pick (eqb k (l .kind)) (Is (l .shape)) (shapeIn ls k)
+shapeIn (l ∷ ls) k = cond (eqb k (l .kind)) (Is (l .shape)) (shapeIn ls k)
 
 unfoldable pub productionIn : List Line → ℕ → List ℕ → List ℕ → List ℕ
 productionIn [] k pool ws = []
-productionIn (l ∷ ls) k pool ws = pick (eqb k (l .kind)) (l .production pool ws) (productionIn ls k pool ws)
+productionIn (l ∷ ls) k pool ws = cond (eqb k (l .kind)) (l .production pool ws) (productionIn ls k pool ws)
 
 -- vec(B) ::= n:<u32> b1:B .. bn:B, an element having `size` words
 unfoldable pub elements : ℕ → ℕ → (List ℕ → List ℕ) → List ℕ → List ℕ

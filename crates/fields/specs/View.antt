@@ -4,7 +4,7 @@ use mathlib.Core.List.{List, [], _∷_, _++_}
 use Prim.Native.Nat.{ℕ, _+_}
 use Rattle.fields.specs.declared.Field.{Field}
 use Rattle.fields.specs.declared.Field.the-variants as field
-use Rattle.fields.specs.Binary.{word, chars}
+use Rattle.fields.specs.Words.{word, chars}
 
 -- N at i; (present, N) at i
 abbrev pub nameAt : List ℕ → List ℕ → ℕ → List ℕ

@@ -1,22 +1,23 @@
-// Fields of a row: each judged and scanned, and the walk over the fields of a shape that serves every kind.
-mod item;
-mod judge;
-pub mod row;
-mod scan;
-mod size;
-mod walk;
-pub mod wall;
-pub mod write;
+// The words of the trade: the fields of a row, the shape of a kind, refusals and answers.
+mod refusals;
+mod shapes;
+mod words;
 
-pub use item::first_of;
-pub use item::item_refusal;
-pub use judge::is_indexed;
-pub use row::kind_of;
-pub use row::many_of;
-pub use row::measure_row;
-pub use row::two_of;
-pub use wall::number_of;
-pub use write::measure_shape;
+pub use refusals::number_of;
+pub use shapes::many_of;
+pub use shapes::two_of;
+pub use words::first_of;
+pub use words::is_indexed;
+pub use words::kind_of;
+
+// Numbers on the wall: the words of a row, and the bytes of a pool, of a reader's input and of a sheet, at most.
+pub const ROW_WORDS: usize = 16384;
+
+pub const POOL_BYTES: usize = 65536;
+
+pub const INPUT_BYTES: usize = 0x4000_0000;
+
+pub const SHEET_BYTES: usize = 65536;
 
 // One field of a row, with its words and its bytes.
 pub enum Field {

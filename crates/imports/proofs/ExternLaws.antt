@@ -2,7 +2,7 @@
 use Prim.Native.Nat.{ℕ, _+_, _≤_, _<_}
 use native.Mathlib.Omega.{arith}
 use mathlib.Core.Path.{_≡_, refl, sym, ap, _∙_, subst}
-use mathlib.Core.Bool.{Bool, true, false}
+use mathlib.Core.Bool.{Bool, true, false, cond}
 use mathlib.Core.List.{List, [], _∷_, _++_}
 use borrow.Author.Tests.{eq-eqb, ne-eqb, lt-ltb, eqb-true}
 use lib.Dec.{eqb, ltb, leb}
@@ -17,15 +17,18 @@ use Rattle.fields.specs.declared.Field.the-variants as field
 use Rattle.fields.specs.declared.Flaw.{Flaw}
 use Rattle.fields.specs.declared.Flaw.the-variants.{Right, Wrong}
 use Rattle.fields.specs.declared.Refusal.the-variants.{Tag, Range, Text}
-use Rattle.fields.specs.Binary.{pick, word, chars, name, valtype, flag, slotAt, slotsAt, slots, externname, typebound, externdesc, bytes}
-use Rattle.fields.specs.Judge.{then, value, named, optionalName, reference, flaw}
-use Rattle.fields.specs.Run.{Wrote}
-use Rattle.fields.proofs.FlawLaws.{ExternRight, extern-right, name-inside, slot-inside, options-absent, plain-flaw}
-use Rattle.fields.proofs.WroteLaws as wrote
-use Rattle.writing.specs.Seen.{rightSize, Seen}
+use Rattle.fields.specs.Words.{word, chars}
+use Rattle.writing.specs.Binary.{name, valtype, flag, slotAt, slotsAt, slots, externname, typebound, externdesc, bytes}
+use Rattle.writing.specs.Judge.{then, value, named, optionalName, reference, flaw}
+use Rattle.writing.specs.inside.Wrote.{Wrote}
+use Rattle.writing.proofs.FlawLaws.{ExternRight, extern-right, name-inside, slot-inside, options-absent, plain-flaw}
+use Rattle.writing.proofs.WroteLaws as wrote
+use Rattle.writing.specs.Sizes.{rightSize}
+use Rattle.writing.specs.inside.Rows.{Known}
 use Rattle.writing.proofs.GroupLaws.{byte-wrote, bytes-wrote, number-wrote, part-name}
-use Rattle.writing.proofs.RowLaws.{seen-of, name-at}
-use Rattle.imports.specs.Seen.{OptionSeen}
+use Rattle.writing.proofs.RowLaws.{known-of, name-at}
+use Rattle.imports.specs.inside.Option.{OptionKnown}
+use Rattle.numbers.proofs.Impossible.{impossible}
 
 -- the words of the options add up to 0: none is present
 slots-absent : (ws : List ℕ) (a b c : ℕ) → a ≡ word ws 2 + word ws 3 + word ws 4 → b ≡ word ws 5 + word ws 6 + word ws 7
@@ -40,22 +43,22 @@ slots-absent ws a b c ea eb ec e =
 -- ---- references
 
 module _ (sort x y : ℕ) where
-  reference-seen : {r : ℕ} → reference (sort ∷ x ∷ y ∷ []) ≡ Right → r ≡ length (externdesc sort x y)
-      → (pool : List ℕ) → Seen pool field.Reference (sort ∷ x ∷ y ∷ []) r
+  reference-known : {r : ℕ} → reference (sort ∷ x ∷ y ∷ []) ≡ Right → r ≡ length (externdesc sort x y)
+      → (pool : List ℕ) → Known pool field.Reference (sort ∷ x ∷ y ∷ []) r
   unfolding flaw bytes
-  reference-seen e s pool = record { right = e; size = s }
+  reference-known e s pool = record { right = e; size = s }
 
   -- by sort
   value-right : sort ≡ 2 → value (x ∷ y ∷ []) 0 ≡ Right → reference (sort ∷ x ∷ y ∷ []) ≡ Right
   unfolding reference value
   value-right e h = simp (eq-eqb _ _ e) (go (eqb x 0) (ltb y 14) (eqb x 1) h)
     where
-      go : (a b c : Bool) → pick a (pick b Right (Wrong Tag 1)) (pick c Right (Wrong Tag 0)) ≡ Right
-          → pick a (pick b Right (Wrong Tag 2)) (pick c Right (Wrong Tag 1)) ≡ Right
+      go : (a b c : Bool) → cond a (cond b Right (Wrong Tag 1)) (cond c Right (Wrong Tag 0)) ≡ Right
+          → cond a (cond b Right (Wrong Tag 2)) (cond c Right (Wrong Tag 1)) ≡ Right
       go true true c e = refl
-      go true false c e = let z : _≡_ {A = ℕ} 0 1 = cc in absurd (omega arith)
+      go true false c e = impossible cc
       go false b true e = refl
-      go false b false e = let z : _≡_ {A = ℕ} 0 1 = cc in absurd (omega arith)
+      go false b false e = impossible cc
 
   bound-right : sort ≡ 3 → x ≡ 0 → reference (sort ∷ x ∷ y ∷ []) ≡ Right
   unfolding reference
@@ -94,7 +97,7 @@ module _ (sort x y : ℕ) where
   unfolding externdesc
   reference-some = go (eqb sort 0) (eqb sort 2) (eqb sort 3) (0x11 ∷ unsigned x) (valtype x y) (typebound x y) (unsigned x)
     where
-      go : (m v t : Bool) (p q r s : List ℕ) → 1 ≤ length (pick m (0x00 ∷ p) (pick v (0x02 ∷ q) (pick t (0x03 ∷ r) (sort ∷ s))))
+      go : (m v t : Bool) (p q r s : List ℕ) → 1 ≤ length (cond m (0x00 ∷ p) (cond v (0x02 ∷ q) (cond t (0x03 ∷ r) (sort ∷ s))))
       go true v t p q r s = omega arith
       go false true t p q r s = omega arith
       go false false true p q r s = omega arith
@@ -102,40 +105,40 @@ module _ (sort x y : ℕ) where
 
   -- seen
   pub value-reference : sort ≡ 2 → {v : ℕ} → v ≡ rightSize [] field.Value (x ∷ y ∷ []) → 0 < v
-      → (pool : List ℕ) → Seen pool field.Reference (sort ∷ x ∷ y ∷ []) (1 + v)
+      → (pool : List ℕ) → Known pool field.Reference (sort ∷ x ∷ y ∷ []) (1 + v)
   unfolding flaw bytes
   value-reference e {v} ev h pool =
-      let s : Seen [] field.Value (x ∷ y ∷ []) v = seen-of ev h in
-      reference-seen (value-right e (s .right)) (omega (arith, ap length (value-bytes e), s .size)) pool
+      let s : Known [] field.Value (x ∷ y ∷ []) v = known-of ev h in
+      reference-known (value-right e (s .right)) (omega (arith, ap length (value-bytes e), s .size)) pool
 
   pub bound-reference : sort ≡ 3 → x ≡ 0 → {n : ℕ} → n ≡ length (unsigned y)
-      → (pool : List ℕ) → Seen pool field.Reference (sort ∷ x ∷ y ∷ []) (2 + n)
-  bound-reference e z en pool = reference-seen (bound-right e z) (omega (arith, ap length (bound-bytes e z))) pool
+      → (pool : List ℕ) → Known pool field.Reference (sort ∷ x ∷ y ∷ []) (2 + n)
+  bound-reference e z en pool = reference-known (bound-right e z) (omega (arith, ap length (bound-bytes e z))) pool
 
-  pub resource-reference : sort ≡ 3 → x ≡ 1 → y ≡ 0 → (pool : List ℕ) → Seen pool field.Reference (sort ∷ x ∷ y ∷ []) 2
+  pub resource-reference : sort ≡ 3 → x ≡ 1 → y ≡ 0 → (pool : List ℕ) → Known pool field.Reference (sort ∷ x ∷ y ∷ []) 2
   resource-reference e o z pool =
-      reference-seen (resource-right e o z) (omega (arith, ap length (resource-bytes e (λ w. omega arith)))) pool
+      reference-known (resource-right e o z) (omega (arith, ap length (resource-bytes e (λ w. omega arith)))) pool
 
   pub module-reference : sort ≡ 0 → y ≡ 0 → {n : ℕ} → n ≡ length (unsigned x)
-      → (pool : List ℕ) → Seen pool field.Reference (sort ∷ x ∷ y ∷ []) (2 + n)
+      → (pool : List ℕ) → Known pool field.Reference (sort ∷ x ∷ y ∷ []) (2 + n)
   module-reference e z en pool =
-      reference-seen (index-right (λ w. omega arith) (λ w. omega arith) (omega arith) z) (omega (arith, ap length (module-bytes e))) pool
+      reference-known (index-right (λ w. omega arith) (λ w. omega arith) (omega arith) z) (omega (arith, ap length (module-bytes e))) pool
 
   pub index-reference : (sort ≡ 0 → ⊥) → (sort ≡ 2 → ⊥) → (sort ≡ 3 → ⊥) → sort < 6 → y ≡ 0 → {n : ℕ} → n ≡ length (unsigned x)
-      → (pool : List ℕ) → Seen pool field.Reference (sort ∷ x ∷ y ∷ []) (1 + n)
-  index-reference o n m h z en pool = reference-seen (index-right n m h z) (omega (arith, ap length (index-bytes o n m))) pool
+      → (pool : List ℕ) → Known pool field.Reference (sort ∷ x ∷ y ∷ []) (1 + n)
+  index-reference o n m h z en pool = reference-known (index-right n m h z) (omega (arith, ap length (index-bytes o n m))) pool
 
 -- at its place in a row
-pub reference-at : (pool ws : List ℕ) (n : ℕ) {r : ℕ} → Seen pool field.Reference (word ws n ∷ word ws (n + 1) ∷ word ws (n + 2) ∷ []) r
-    → Seen pool field.Reference (drop n ws) r
+pub reference-at : (pool ws : List ℕ) (n : ℕ) {r : ℕ} → Known pool field.Reference (word ws n ∷ word ws (n + 1) ∷ word ws (n + 2) ∷ []) r
+    → Known pool field.Reference (drop n ws) r
 unfolding flaw reference value bytes
 reference-at pool ws n {r} s =
     let z : n + 0 ≡ n = omega arith in
     let a = getD-drop n ws 0 0 ∙ ap (λ k. word ws k) z in
     let b = getD-drop n ws 1 0 in
     let c = getD-drop n ws 2 0 in
-    let t : Seen pool field.Reference (word (drop n ws) 0 ∷ word (drop n ws) 1 ∷ word (drop n ws) 2 ∷ []) r =
-    subst (λ l. Seen pool field.Reference l r) (λ i. sym a i ∷ sym b i ∷ sym c i ∷ []) s in
+    let t : Known pool field.Reference (word (drop n ws) 0 ∷ word (drop n ws) 1 ∷ word (drop n ws) 2 ∷ []) r =
+    subst (λ l. Known pool field.Reference l r) (λ i. sym a i ∷ sym b i ∷ sym c i ∷ []) s in
     record { right = t .right; size = t .size }
 
 -- ---- storing
@@ -176,8 +179,8 @@ sets-size old to all e = ap length e ∙ length-sets old to all
 -- what is judged of an option by its words a b c, which stand at i
 abbrev judged : List ℕ → ℕ → ℕ → ℕ → ℕ → Flaw
 judged pool a b c i =
-    pick (eqb a 0) (then (pick (eqb b 0) Right (Wrong Tag (i + 1))) (pick (eqb c 0) Right (Wrong Tag (i + 2))))
-    (pick (eqb a 1) (pick (leb (b + c) (length pool)) (pick (text (chars pool b c)) Right (Wrong Text (i + 1))) (Wrong Range (i + 1))) (Wrong Tag i))
+    cond (eqb a 0) (then (cond (eqb b 0) Right (Wrong Tag (i + 1))) (cond (eqb c 0) Right (Wrong Tag (i + 2))))
+    (cond (eqb a 1) (cond (leb (b + c) (length pool)) (cond (text (chars pool b c)) Right (Wrong Text (i + 1))) (Wrong Range (i + 1))) (Wrong Tag i))
 
 judged-at : (pool ws : List ℕ) (i : ℕ) → optionalName pool ws i ≡ judged pool (word ws i) (word ws (i + 1)) (word ws (i + 2)) i
 unfolding optionalName named
@@ -188,17 +191,17 @@ judged-moved : (pool : List ℕ) (a b c i j : ℕ) → judged pool a b c i ≡ R
 judged-moved pool a b c i j e = go (eqb a 0) (eqb b 0) (eqb c 0) (eqb a 1) (leb (b + c) (length pool)) (text (chars pool b c)) e
   where
     go : (p q r s t u : Bool)
-        → pick p (then (pick q Right (Wrong Tag (i + 1))) (pick r Right (Wrong Tag (i + 2))))
-        (pick s (pick t (pick u Right (Wrong Text (i + 1))) (Wrong Range (i + 1))) (Wrong Tag i)) ≡ Right
-        → pick p (then (pick q Right (Wrong Tag (j + 1))) (pick r Right (Wrong Tag (j + 2))))
-        (pick s (pick t (pick u Right (Wrong Text (j + 1))) (Wrong Range (j + 1))) (Wrong Tag j)) ≡ Right
+        → cond p (then (cond q Right (Wrong Tag (i + 1))) (cond r Right (Wrong Tag (i + 2))))
+        (cond s (cond t (cond u Right (Wrong Text (i + 1))) (Wrong Range (i + 1))) (Wrong Tag i)) ≡ Right
+        → cond p (then (cond q Right (Wrong Tag (j + 1))) (cond r Right (Wrong Tag (j + 2))))
+        (cond s (cond t (cond u Right (Wrong Text (j + 1))) (Wrong Range (j + 1))) (Wrong Tag j)) ≡ Right
     go true true true s t u e = refl
-    go true true false s t u e = let z : _≡_ {A = ℕ} 0 1 = cc in absurd (omega arith)
-    go true false r s t u e = let z : _≡_ {A = ℕ} 0 1 = cc in absurd (omega arith)
+    go true true false s t u e = impossible cc
+    go true false r s t u e = impossible cc
     go false q r true true true e = refl
-    go false q r true true false e = let z : _≡_ {A = ℕ} 0 1 = cc in absurd (omega arith)
-    go false q r true false u e = let z : _≡_ {A = ℕ} 0 1 = cc in absurd (omega arith)
-    go false q r false t u e = let z : _≡_ {A = ℕ} 0 1 = cc in absurd (omega arith)
+    go false q r true true false e = impossible cc
+    go false q r true false u e = impossible cc
+    go false q r false t u e = impossible cc
 
 -- an option by itself: absent, and present
 module _ (pool : List ℕ) (present start size : ℕ) where
@@ -218,20 +221,20 @@ module _ (pool : List ℕ) (present start size : ℕ) where
   unfolding optionalName named flaw
   some-right e h = simp e (go (leb (start + size) (length pool)) (text (chars pool start size)) h)
     where
-      go : (t u : Bool) → pick t (pick u Right (Wrong Text 0)) (Wrong Range 0) ≡ Right → pick t (pick u Right (Wrong Text 1)) (Wrong Range 1) ≡ Right
+      go : (t u : Bool) → cond t (cond u Right (Wrong Text 0)) (Wrong Range 0) ≡ Right → cond t (cond u Right (Wrong Text 1)) (Wrong Range 1) ≡ Right
       go true true e = refl
-      go true false e = let z : _≡_ {A = ℕ} 0 1 = cc in absurd (omega arith)
-      go false u e = let z : _≡_ {A = ℕ} 0 1 = cc in absurd (omega arith)
+      go true false e = impossible cc
+      go false u e = impossible cc
 
   module _ {made : ℕ} (before : made ≡ 0 → ⊥) where
-    pub option-none : present ≡ 0 → start ≡ 0 → size ≡ 0 → OptionSeen pool present start size made made
+    pub option-none : present ≡ 0 → start ≡ 0 → size ≡ 0 → OptionKnown pool present start size made made
     option-none e s n = record { before = before; right = none-right e s n; total = λ k. omega (arith, ap length (slot-none e k)) }
 
     pub option-some : present ≡ 1 → {one : ℕ} → one ≡ rightSize pool field.Name (start ∷ size ∷ []) → 0 < one
-        → OptionSeen pool present start size made (made + 1 + one)
+        → OptionKnown pool present start size made (made + 1 + one)
     unfolding bytes
     option-some e {one} eo h =
-        let s : Seen pool field.Name (start ∷ size ∷ []) one = seen-of eo h in
+        let s : Known pool field.Name (start ∷ size ∷ []) one = known-of eo h in
         let n : present ≡ 0 → ⊥ = λ z. omega arith in
         record { before = before; right = some-right e (s .right); total = λ k. omega (arith, ap length (slot-some n k), s .size) }
 
@@ -274,12 +277,12 @@ module _ (pool row : List ℕ) (i : ℕ) where
       )
 
 -- the three of them
-pub options-seen : (pool row : List ℕ) {made one two r : ℕ} → OptionSeen pool (word row 3) (word row 4) (word row 5) made one
-    → OptionSeen pool (word row 6) (word row 7) (word row 8) one two → OptionSeen pool (word row 9) (word row 10) (word row 11) two r
+pub options-known : (pool row : List ℕ) {made one two r : ℕ} → OptionKnown pool (word row 3) (word row 4) (word row 5) made one
+    → OptionKnown pool (word row 6) (word row 7) (word row 8) one two → OptionKnown pool (word row 9) (word row 10) (word row 11) two r
     → (optionalName pool (drop 1 row) 2 ≡ Right) × (optionalName pool (drop 1 row) 5 ≡ Right) × (optionalName pool (drop 1 row) 8 ≡ Right)
     × (r ≡ made + length (slotsAt pool (drop 1 row)))
 unfolding slotsAt
-options-seen pool row {made} {one} {two} {r} a b c =
+options-known pool row {made} {one} {two} {r} a b c =
     let ws = drop 1 row in
     let x = slotAt pool ws 0x00 2 in
     let y = slotAt pool ws 0x01 5 in
@@ -332,21 +335,21 @@ module _ (pool ws : List ℕ) where
   absent-words i e z = go (eqb (word ws (i + 1)) 0) (eqb (word ws (i + 2)) 0) refl refl (simp (eq-eqb _ _ z) at e)
     where
       go : (a b : Bool) → eqb (word ws (i + 1)) 0 ≡ a → eqb (word ws (i + 2)) 0 ≡ b
-          → then (pick a Right (Wrong Tag (i + 1))) (pick b Right (Wrong Tag (i + 2))) ≡ Right → (word ws (i + 1) ≡ 0) × (word ws (i + 2) ≡ 0)
+          → then (cond a Right (Wrong Tag (i + 1))) (cond b Right (Wrong Tag (i + 2))) ≡ Right → (word ws (i + 1) ≡ 0) × (word ws (i + 2) ≡ 0)
       go true true p q e = (eqb-true _ _ p, eqb-true _ _ q)
-      go true false p q e = let z : _≡_ {A = ℕ} 0 1 = cc in absurd (omega arith)
-      go false b p q e = let z : _≡_ {A = ℕ} 0 1 = cc in absurd (omega arith)
+      go true false p q e = impossible cc
+      go false b p q e = impossible cc
 
   -- the first word of an option that is right is whether it is present
   present-flag : (i : ℕ) → optionalName pool ws i ≡ Right → (flag (word ws i) ≡ word ws i) × (word ws i ≤ 1)
   unfolding optionalName flag
   present-flag i e = go (eqb (word ws i) 0) (eqb (word ws i) 1) refl refl _ _ e
     where
-      go : (a b : Bool) → eqb (word ws i) 0 ≡ a → eqb (word ws i) 1 ≡ b → (x y : Flaw) → pick a x (pick b y (Wrong Tag i)) ≡ Right
-          → (pick a 0x00 0x01 ≡ word ws i) × (word ws i ≤ 1)
+      go : (a b : Bool) → eqb (word ws i) 0 ≡ a → eqb (word ws i) 1 ≡ b → (x y : Flaw) → cond a x (cond b y (Wrong Tag i)) ≡ Right
+          → (cond a 0x00 0x01 ≡ word ws i) × (word ws i ≤ 1)
       go true b p q x y e = (sym (eqb-true _ _ p), omega (arith, eqb-true (word ws i) 0 p))
       go false true p q x y e = (sym (eqb-true _ _ q), omega (arith, eqb-true (word ws i) 1 q))
-      go false false p q x y e = let z : _≡_ {A = ℕ} 0 1 = cc in absurd (omega arith)
+      go false false p q x y e = impossible cc
 
   module _ (a : optionalName pool ws 2 ≡ Right) (b : optionalName pool ws 5 ≡ Right) (c : optionalName pool ws 8 ≡ Right) where
     pub slots-sum : (slots ws ≡ word ws 2 + word ws 5 + word ws 8) × (word ws 2 + word ws 5 + word ws 8 ≤ 3)
@@ -391,16 +394,16 @@ module _ (pool row : List ℕ) where
   sum-at = simp getD-drop
 
   module _ {one : ℕ} (eo : one ≡ rightSize pool field.Name (word row 1 ∷ word row 2 ∷ [])) (some : one ≡ 0 → ⊥) where
-    name-seen : Seen pool field.Name ws one
-    name-seen = name-at pool row 1 refl refl (seen-of eo (omega arith))
+    name-known : Known pool field.Name ws one
+    name-known = name-at pool row 1 refl refl (known-of eo (omega arith))
 
     name-right : named pool ws 0 ≡ Right
     unfolding flaw
-    name-right = name-seen .right
+    name-right = name-known .right
 
     name-length : one ≡ length (name pool (word ws 0) (word ws 1))
     unfolding bytes
-    name-length = name-seen .size
+    name-length = name-known .size
 
     -- without options, and with one
     pub plain-extern : Sum row ≡ 0 → (made : ℕ) → (flaw pool field.ExternName ws ≡ Right) × (made + 1 + one ≡ made + length (externname pool ws))

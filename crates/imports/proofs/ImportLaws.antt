@@ -11,19 +11,21 @@ use Rattle.fields.specs.declared.Field.the-variants as field
 use Rattle.fields.specs.declared.Flaw.the-variants.{Right}
 use Rattle.fields.specs.declared.Refusal.{Refusal}
 use Rattle.fields.specs.declared.Refusal.the-variants.{Room}
-use Rattle.fields.specs.Binary.{word, externname, externdesc, bytes}
-use Rattle.fields.specs.Judge.{wide, flaw}
-use Rattle.fields.specs.Row.{measuredRow, rowBytes}
-use Rattle.fields.specs.Run.{Wrote}
+use Rattle.fields.specs.Words.{word, wide}
+use Rattle.writing.specs.Binary.{externname, externdesc, bytes}
+use Rattle.writing.specs.Judge.{flaw}
+use Rattle.writing.specs.Row.{measuredRow, rowBytes}
+use Rattle.writing.specs.inside.Wrote.{Wrote}
 use Rattle.fields.specs.Table.{shapeIn}
-use Rattle.fields.specs.Write.{left}
-use Rattle.fields.proofs.FlawLaws.{reference-below}
-use Rattle.fields.proofs.WroteLaws as wrote
-use Rattle.writing.specs.Seen.{within, Seen, Fits}
-use Rattle.writing.proofs.RowLaws.{within-fits, within-not, bare-seen, bare-held, written-answer, room-answer, refused-answer}
+use Rattle.fields.specs.Answers.{left}
+use Rattle.writing.proofs.FlawLaws.{reference-below}
+use Rattle.writing.proofs.WroteLaws as wrote
+use Rattle.writing.specs.Sizes.{within}
+use Rattle.writing.specs.inside.Rows.{Known, Fits}
+use Rattle.writing.proofs.RowLaws.{within-fits, within-not, bare-known, bare-held, written-answer, room-answer, refused-answer}
 use Rattle.imports.specs.Write.{shapeOf, measuredImport, writeImport}
 use Rattle.imports.proofs.ExternLaws.{reference-at, reference-some}
-use Rattle.imports.proofs.ReadLaws.{import-some}
+use Rattle.imports.proofs.SomeLaws.{import-some}
 
 module _ (row pool : List ℕ) where
   abbrev extern : List ℕ
@@ -32,11 +34,11 @@ module _ (row pool : List ℕ) where
   abbrev described : List ℕ
   described = externdesc (word row 12) (word row 13) (word row 14)
 
-  pub import-seen : length row ≡ 15 → length pool ≤ 65536 → {q r : ℕ} → Seen pool field.Reference (word row 12 ∷ word row 13 ∷ word row 14 ∷ []) q
+  pub import-known : length row ≡ 15 → length pool ≤ 65536 → {q r : ℕ} → Known pool field.Reference (word row 12 ∷ word row 13 ∷ word row 14 ∷ []) q
       → (flaw pool field.ExternName (drop 1 row) ≡ Right) × (r ≡ q + length extern) → r < 2 ^ 32 → measuredRow (shapeOf 17) row pool ≡ Size r
   unfolding shapeIn wide bytes
-  import-seen width small s e few =
-      bare-seen field.ExternName field.Reference row pool small (omega arith) width (record { right = e .0; size = refl })
+  import-known width small s e few =
+      bare-known field.ExternName field.Reference row pool small (omega arith) width (record { right = e .0; size = refl })
       (reference-at pool row 12 s) (omega (arith, e .1)) few
 
   described-at : bytes pool field.Reference (drop 12 row) ≡ described

@@ -1,11 +1,11 @@
 -- The line of the table of imports agrees: what its shape writes is what its production says.
-use mathlib.Core.Path.{_≡_, refl, _∙_}
-use mathlib.Core.List.{List, [], _∷_, _++_}
+use mathlib.Core.Path.{refl, _∙_}
 use lib.Seq.{getD-drop}
 use Rattle.fields.specs.declared.Field.the-variants as field
-use Rattle.fields.specs.Binary.{bytes}
-use Rattle.fields.specs.Judge.{wide}
-use Rattle.fields.proofs.TableLaws.{Agrees, All, two-bytes}
+use Rattle.writing.specs.Binary.{bytes}
+use Rattle.fields.specs.Words.{wide}
+use Rattle.writing.specs.Agree.{Agrees, All}
+use Rattle.writing.proofs.ProductionLaws.{two-bytes}
 use Rattle.imports.specs.Table.{table}
 
 pub imports-agree : All Agrees table

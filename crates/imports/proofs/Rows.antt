@@ -3,9 +3,10 @@ use Prim.Native.Nat.{ℕ}
 use mathlib.Core.Path.{_≡_, refl}
 use mathlib.Core.List.{List}
 use Rattle.fields.specs.declared.Answer.the-variants.{Size}
-use Rattle.fields.specs.Judge.{wide}
+use Rattle.fields.specs.Words.{wide}
 use Rattle.fields.specs.Shape.{widths}
-use Rattle.fields.proofs.TableRows.{Row, every, row-of}
+use Rattle.writing.specs.Agree.{Row}
+use Rattle.writing.proofs.TableRows.{every, row-of}
 use Rattle.imports.specs.Table.{table}
 use Rattle.imports.specs.Write.{measuredImport}
 use Rattle.imports.proofs.Productions.{imports-agree}

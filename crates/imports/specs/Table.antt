@@ -1,7 +1,8 @@
 -- Kind 17: the imports of the component binary document.
 use mathlib.Core.List.{List, [], _∷_, _++_}
 use Rattle.fields.specs.declared.Field.the-variants as field
-use Rattle.fields.specs.Binary.{word, externname, externdesc}
+use Rattle.fields.specs.Words.{word}
+use Rattle.writing.specs.Binary.{externname, externdesc}
 use Rattle.fields.specs.Table.{Line, line, twoOf}
 
 abbrev pub table : List Line

@@ -3,10 +3,10 @@ use mathlib.Core.List.{List}
 use Prim.Native.Nat.{ℕ}
 use Rattle.fields.specs.declared.Answer.{Answer}
 use Rattle.fields.specs.declared.Found.{Found}
-use Rattle.fields.specs.Binary.{word}
-use Rattle.fields.specs.Row.{measuredRow, writeRow, rowBytes}
+use Rattle.fields.specs.Words.{word}
+use Rattle.writing.specs.Row.{measuredRow, writeRow, rowBytes}
 use Rattle.fields.specs.Table.{shapeIn}
-use Rattle.fields.specs.Write.{Left}
+use Rattle.fields.specs.Answers.{Left}
 use Rattle.imports.specs.Table.{table}
 
 abbrev pub shapeOf : ℕ → Found

@@ -1,5 +1,6 @@
 // An import in straight code: how many bytes a row makes, 0 where not all of it is seen to be right, and its bytes.
 use fields::Field;
+use fields::POOL_BYTES;
 use numbers::stored_size;
 use numbers::unsigned_size;
 use writing::name_size;
@@ -11,17 +12,19 @@ ghost use lib.ListN.{length, drop};
 ghost use lib.Seq.{sets};
 ghost use Rattle.fields.specs.declared.Answer.the-variants.{Size};
 ghost use Rattle.fields.specs.declared.Flaw.the-variants.{Right};
-ghost use Rattle.fields.specs.Binary.{word, slotAt, slotsAt, externname, externdesc};
-ghost use Rattle.fields.specs.Judge.{flaw, optionalName};
-ghost use Rattle.fields.specs.Row.{measuredRow, rowBytes};
-ghost use Rattle.fields.specs.Run.{Wrote};
+ghost use Rattle.fields.specs.Words.{word};
+ghost use Rattle.writing.specs.Binary.{slotAt, slotsAt, externname, externdesc};
+ghost use Rattle.writing.specs.Judge.{flaw, optionalName};
+ghost use Rattle.writing.specs.Row.{measuredRow, rowBytes};
+ghost use Rattle.writing.specs.inside.Wrote.{Wrote};
 ghost use Rattle.imports.specs.Write.{shapeOf};
-ghost use Rattle.imports.specs.Seen.{OptionSeen};
-ghost use Rattle.writing.specs.Seen.{Seen, Fits};
+ghost use Rattle.imports.specs.inside.Option.{OptionKnown};
+ghost use Rattle.writing.specs.inside.Rows.{Known, Fits};
+ghost use Rattle.fields.specs.Limits.{poolBytes};
 
 // The reference: what is imported.
 fn reference_size(sort: u32, x: u32, y: u32) -> usize
-    ensures { λ r. ⌜ (0 < r → (pool : List ℕ) → Seen pool Field.Reference (sort ∷ x ∷ y ∷ []) r) ⌝ }
+    ensures { λ r. ⌜ (0 < r → (pool : List ℕ) → Known pool Field.Reference (sort ∷ x ∷ y ∷ []) r) ⌝ }
     ensures { λ r. ⌜ r ≤ 7 ⌝ }
 {
     if sort == 2 {
@@ -81,8 +84,8 @@ fn put_reference(sort: u32, x: u32, y: u32, out: &mut [u8], to: usize)
 
 // An option of the name, with `made` bytes before it; 0 where it is not right, or `made` is 0.
 fn option_size(present: u32, start: u32, size: u32, pool: &[u8], made: usize) -> usize
-    requires { ⌜ (length (now pool) ≤ 65536) × (made ≤ 2 ^ 40) ⌝ }
-    ensures { λ r. ⌜ (0 < r → OptionSeen (now (pool .entry)) present start size made r) ⌝ }
+    requires { ⌜ (length (now pool) ≤ poolBytes) × (made ≤ 2 ^ 40) ⌝ }
+    ensures { λ r. ⌜ (0 < r → OptionKnown (now (pool .entry)) present start size made r) ⌝ }
     ensures { λ r. ⌜ r ≤ made + 2 ^ 17 ⌝ }
 {
     if made == 0 {
@@ -133,7 +136,7 @@ fn three(present: u32, start: u32, size: u32) -> u64
 }
 
 // Whether the words of the options are 0, as in most imports: then none needs to be judged.
-fn is_plain(row: &[u32]) -> bool
+fn is_bare(row: &[u32]) -> bool
     requires { ⌜ length (now row) ≡ 15 ⌝ }
     ensures { λ r. ⌜ r ≡ eqb (word (now (row .entry)) 3 + word (now (row .entry)) 4 + word (now (row .entry)) 5 + (word (now (row .entry)) 6 + word (now (row .entry)) 7 + word (now (row .entry)) 8) + (word (now (row .entry)) 9 + word (now (row .entry)) 10 + word (now (row .entry)) 11)) 0 ⌝ }
 {
@@ -145,7 +148,7 @@ fn is_plain(row: &[u32]) -> bool
 
 // The options, with `made` bytes before them, where one is present.
 fn options_size(row: &[u32], pool: &[u8], made: usize) -> usize
-    requires { ⌜ (length (now row) ≡ 15) × (length (now pool) ≤ 65536) × (made ≤ 2 ^ 32) ⌝ }
+    requires { ⌜ (length (now row) ≡ 15) × (length (now pool) ≤ poolBytes) × (made ≤ 2 ^ 32) ⌝ }
     ensures { λ r. ⌜ (0 < r → (optionalName (now (pool .entry)) (drop 1 (now (row .entry))) 2 ≡ Right) × (optionalName (now (pool .entry)) (drop 1 (now (row .entry))) 5 ≡ Right) × (optionalName (now (pool .entry)) (drop 1 (now (row .entry))) 8 ≡ Right) × (r ≡ made + length (slotsAt (now (pool .entry)) (drop 1 (now (row .entry)))))) ⌝ }
     ensures { λ r. ⌜ r ≤ made + 2 ^ 20 ⌝ }
 {
@@ -156,7 +159,7 @@ fn options_size(row: &[u32], pool: &[u8], made: usize) -> usize
 
 // The extern name, with `made` bytes behind it: 00 and a name, or 02, a name, a count and options.
 fn extern_size(row: &[u32], pool: &[u8], made: usize) -> usize
-    requires { ⌜ (length (now row) ≡ 15) × (length (now pool) ≤ 65536) × (made ≤ 16) ⌝ }
+    requires { ⌜ (length (now row) ≡ 15) × (length (now pool) ≤ poolBytes) × (made ≤ 16) ⌝ }
     ensures { λ r. ⌜ (0 < r → (flaw (now (pool .entry)) Field.ExternName (drop 1 (now (row .entry))) ≡ Right) × (r ≡ made + length (externname (now (pool .entry)) (drop 1 (now (row .entry)))))) ⌝ }
     ensures { λ r. ⌜ r < 2 ^ 32 ⌝ }
 {
@@ -164,7 +167,7 @@ fn extern_size(row: &[u32], pool: &[u8], made: usize) -> usize
     if name == 0 {
         return 0;
     }
-    if is_plain(row) {
+    if is_bare(row) {
         return made + 1 + name;
     }
     options_size(row, pool, made + 2 + name)
@@ -203,7 +206,7 @@ pub fn import_size(row: &[u32], pool: &[u8]) -> usize
     ensures { λ r. ⌜ (0 < r → measuredRow (shapeOf 17) (now (row .entry)) (now (pool .entry)) ≡ Size r) ⌝ }
 {
     if row.len() == 15 {
-        if pool.len() <= 65536 {
+        if pool.len() <= POOL_BYTES {
             let reference = reference_size(row[12], row[13], row[14]);
             if 0 < reference {
                 return extern_size(row, pool, reference);

@@ -3,7 +3,7 @@
 use fields::Answer;
 use sections::Section;
 ghost use mathlib.Core.Path.{_≡_};
-ghost use Rattle.fields.specs.Write.{left};
+ghost use Rattle.fields.specs.Answers.{left};
 ghost use Rattle.sections.specs.Steps.{turned, gives, rowing, opening, asyncing, paraming, resulting, abandoning};
 ghost use Rattle.sections.specs.Finish.{finishing};
 

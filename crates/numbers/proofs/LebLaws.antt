@@ -2,7 +2,7 @@
 use Prim.Native.Nat.{ℕ, zero, suc, _+_, _-_, _*_, _/_, _%_, _^_, _≤_, _<_}
 use native.Mathlib.Omega.{arith}
 use native.Mathlib.Numerals.{add-one}
-use mathlib.Core.Path.{_≡_, refl, sym, ap, _∙_}
+use mathlib.Core.Path.{_≡_, refl, sym}
 use mathlib.Core.Bool.{Bool, true, false, cond}
 use mathlib.Core.List.{List, [], _∷_, _++_}
 use lib.Dec.{ltb}
@@ -15,6 +15,7 @@ use Rattle.numbers.specs.declared.leb.Taken.{Taken}
 use Rattle.numbers.specs.declared.leb.Taken.the-variants.{Value, Cut, Bad}
 use Rattle.numbers.proofs.IntegerLaws.{put-is, integer-bytes}
 use Rattle.numbers.proofs.Shortest.{room, bytes-last, bytes-more, at-most, size-by-bounds}
+use Rattle.numbers.proofs.Impossible.{impossible}
 
 module _ (end : ℕ) (low : 63 < end) (high : end ≤ 128) where
   -- a number of one byte reads back
@@ -59,7 +60,7 @@ module _ (end : ℕ) (low : 63 < end) (high : end ≤ 128) where
 
       longer : (w u : ℕ) → numberIn end k s ≡ Value w u → 128 ≤ b → (q : Bool) → ltb (w * 128 + (b - 128)) end ≡ q
           → cond q Bad (Value (w * 128 + (b - 128)) (u + 1)) ≡ Value v t → goal
-      longer w u r m true eq e = let z : _≡_ {A = ℕ} 0 1 = cc in absurd (omega arith)
+      longer w u r m true eq e = impossible cc
       longer w u r m false eq e =
           let a : u + 1 ≡ t = cc in
           let x : w * 128 + (b - 128) ≡ v = cc in
@@ -69,21 +70,21 @@ module _ (end : ℕ) (low : 63 < end) (high : end ≤ 128) where
 
       rest : (r : Taken) → numberIn end k s ≡ r → 128 ≤ b → more end b r ≡ Value v t → goal
       rest (Value w u) r m e = longer w u r m (ltb (w * 128 + (b - 128)) end) refl e
-      rest Cut r m e = let z : _≡_ {A = ℕ} 0 1 = cc in absurd (omega arith)
-      rest Bad r m e = let z : _≡_ {A = ℕ} 0 1 = cc in absurd (omega arith)
+      rest Cut r m e = impossible cc
+      rest Bad r m e = impossible cc
 
       go : (p : Bool) → ltb b 128 ≡ p → (q : Bool) → ltb b end ≡ q → cond p (cond q (Value b 1) Bad) (more end b (numberIn end k s)) ≡ Value v t → goal
       go true ep true eq e =
           let a : 1 ≡ t = cc in
           let x : b ≡ v = cc in
           rw (← a, ← x) (sym (bytes-last end k b (ltb-true b end eq)))
-      go true ep false eq e = let z : _≡_ {A = ℕ} 0 1 = cc in absurd (omega arith)
+      go true ep false eq e = impossible cc
       go false ep q eq e = rest (numberIn end k s) refl (ltb-false b 128 ep) e
 
   only : (k : ℕ) (s : List ℕ) → ((i : ℕ) → getD s i 0 < 256) → Only k s
   unfolding Only numberIn
-  only zero s f v t e = let z : _≡_ {A = ℕ} 0 1 = cc in absurd (omega arith)
-  only (suc k) [] f v t e = let z : _≡_ {A = ℕ} 0 1 = cc in absurd (omega arith)
+  only zero s f v t e = impossible cc
+  only (suc k) [] f v t e = impossible cc
   only (suc k) (b ∷ s) f v t e = only-cons k b s (f 0) (only k s (λ i. f (suc i))) v t e
 
   -- a number of at most k bytes has one at least, and they are there
@@ -95,23 +96,23 @@ module _ (end : ℕ) (low : 63 < end) (high : end ≤ 128) where
   inside-cons k b s ih v t e = go (ltb b 128) (ltb b end) e
     where
       longer : (w u : ℕ) → numberIn end k s ≡ Value w u → (q : Bool) → cond q Bad (Value (w * 128 + (b - 128)) (u + 1)) ≡ Value v t → (0 < t) × (t ≤ suc k) × (t ≤ suc (length s))
-      longer w u r true e = let z : _≡_ {A = ℕ} 0 1 = cc in absurd (omega arith)
+      longer w u r true e = impossible cc
       longer w u r false e = let a : u + 1 ≡ t = cc in omega (arith, ih w u r)
 
       rest : (r : Taken) → numberIn end k s ≡ r → more end b r ≡ Value v t → (0 < t) × (t ≤ suc k) × (t ≤ suc (length s))
       rest (Value w u) r e = longer w u r (ltb (w * 128 + (b - 128)) end) e
-      rest Cut r e = let z : _≡_ {A = ℕ} 0 1 = cc in absurd (omega arith)
-      rest Bad r e = let z : _≡_ {A = ℕ} 0 1 = cc in absurd (omega arith)
+      rest Cut r e = impossible cc
+      rest Bad r e = impossible cc
 
       go : (p q : Bool) → cond p (cond q (Value b 1) Bad) (more end b (numberIn end k s)) ≡ Value v t → (0 < t) × (t ≤ suc k) × (t ≤ suc (length s))
       go true true e = let a : 1 ≡ t = cc in omega arith
-      go true false e = let z : _≡_ {A = ℕ} 0 1 = cc in absurd (omega arith)
+      go true false e = impossible cc
       go false q e = rest (numberIn end k s) refl e
 
   inside : (k : ℕ) (s : List ℕ) → Inside k s
   unfolding Inside numberIn
-  inside zero s v t e = let z : _≡_ {A = ℕ} 0 1 = cc in absurd (omega arith)
-  inside (suc k) [] v t e = let z : _≡_ {A = ℕ} 0 1 = cc in absurd (omega arith)
+  inside zero s v t e = impossible cc
+  inside (suc k) [] v t e = impossible cc
   inside (suc k) (b ∷ s) v t e = inside-cons k b s (inside k s) v t e
 
   inside32 : (s : List ℕ) (n t : ℕ) → takeIn end s ≡ Value n t → (0 < t) × (t ≤ 5) × (t ≤ length s)
@@ -120,12 +121,12 @@ module _ (end : ℕ) (low : 63 < end) (high : end ≤ 128) where
     where
       fit : (w u : ℕ) → numberIn end 5 s ≡ Value w u → (q : Bool) → cond q (Value w u) Bad ≡ Value n t → (0 < t) × (t ≤ 5) × (t ≤ length s)
       fit w u r true e = inside 5 s n t (cc)
-      fit w u r false e = let z : _≡_ {A = ℕ} 0 1 = cc in absurd (omega arith)
+      fit w u r false e = impossible cc
 
       go : (r : Taken) → numberIn end 5 s ≡ r → within32 r ≡ Value n t → (0 < t) × (t ≤ 5) × (t ≤ length s)
       go (Value w u) r e = fit w u r (ltb w (2 ^ 32)) e
-      go Cut r e = let z : _≡_ {A = ℕ} 0 1 = cc in absurd (omega arith)
-      go Bad r e = let z : _≡_ {A = ℕ} 0 1 = cc in absurd (omega arith)
+      go Cut r e = impossible cc
+      go Bad r e = impossible cc
 
   -- the same within 32 bits
   record Shown (s : List ℕ) (n t : ℕ) : Type 0 where
@@ -143,9 +144,9 @@ module _ (end : ℕ) (low : 63 < end) (high : end ≤ 128) where
           fit true eq e =
               let x : w ≡ n = cc in
               record { bytes = only 5 s f n t (cc); small = omega (arith, ltb-true w (2 ^ 32) eq) }
-          fit false eq e = let z : _≡_ {A = ℕ} 0 1 = cc in absurd (omega arith)
-      go Cut r e = let z : _≡_ {A = ℕ} 0 1 = cc in absurd (omega arith)
-      go Bad r e = let z : _≡_ {A = ℕ} 0 1 = cc in absurd (omega arith)
+          fit false eq e = impossible cc
+      go Cut r e = impossible cc
+      go Bad r e = impossible cc
 
 -- ---- the laws for both forms
 

@@ -1,12 +1,13 @@
-pub mod BytesLaws
-pub mod CopyLaws
-pub mod IntegerLaws
-pub mod LebLaws
 mod Reading
-pub mod SeenLaws
 mod Shortest
 mod TextChunks
-pub mod TextLaws
 mod TextRows
 mod ThreeBytes
 mod Vectors
+pub mod BytesLaws
+pub mod CopyLaws
+pub mod Impossible
+pub mod IntegerLaws
+pub mod LebLaws
+pub mod SeenLaws
+pub mod TextLaws

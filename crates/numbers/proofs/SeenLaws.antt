@@ -16,26 +16,23 @@ use Rattle.numbers.specs.declared.leb.Number.{Number}
 use Rattle.numbers.specs.declared.leb.Taken.{Taken}
 use Rattle.numbers.specs.declared.leb.Taken.the-variants.{Value, Cut, Bad}
 use Rattle.numbers.proofs.LebLaws.{taken-inside, take-one}
+use Rattle.numbers.proofs.Impossible.{impossible}
 
 -- ---- what is seen
 
 -- a number that was taken is seen
 pub seen-value : (t : Taken) (n k : ℕ) → t ≡ Value n k → seen t ≡ number n k
-unfolding seen
 seen-value t n k e = ap seen e
 
 -- where nothing was taken, nothing is seen
 pub seen-cut : (t : Taken) → t ≡ Cut → seen t ≡ number 0 0
-unfolding seen
 seen-cut t e = ap seen e
 
 pub seen-bad : (t : Taken) → t ≡ Bad → seen t ≡ number 0 0
-unfolding seen
 seen-bad t e = ap seen e
 
 -- what is seen was taken
 pub seen-taken : (t : Taken) → 0 < seen t .took → t ≡ Value (seen t .value) (seen t .took)
-unfolding seen
 seen-taken (Value n k) h = refl
 seen-taken Cut h = absurd (omega arith)
 seen-taken Bad h = absurd (omega arith)
@@ -49,12 +46,12 @@ taken-small end s n t e = go (numberIn end 5 s) e
     fit w u true eq e =
         let x : w ≡ n = cc in
         omega (arith, ltb-true w (2 ^ 32) eq)
-    fit w u false eq e = let z : _≡_ {A = ℕ} 0 1 = cc in absurd (omega arith)
+    fit w u false eq e = impossible cc
 
     go : (r : Taken) → within32 r ≡ Value n t → n < 2 ^ 32
     go (Value w u) e = fit w u (ltb w (2 ^ 32)) refl e
-    go Cut e = let z : _≡_ {A = ℕ} 0 1 = cc in absurd (omega arith)
-    go Bad e = let z : _≡_ {A = ℕ} 0 1 = cc in absurd (omega arith)
+    go Cut e = impossible cc
+    go Bad e = impossible cc
 
 -- the same of each form
 pub index-small : (s : List ℕ) (n t : ℕ) → takeUnsigned s ≡ Value n t → n < 2 ^ 32
@@ -285,8 +282,8 @@ module _ (end : ℕ) where
 
       last : (r : Taken) → numberIn end k s ≡ r → more end b r ≡ Value v t → goal false
       last (Value w u) r e = ap (λ (x : Taken). more end b x) (ih w u r) ∙ e
-      last Cut r e = let z : _≡_ {A = ℕ} 0 1 = cc in absurd (omega arith)
-      last Bad r e = let z : _≡_ {A = ℕ} 0 1 = cc in absurd (omega arith)
+      last Cut r e = impossible cc
+      last Bad r e = impossible cc
 
       go : (p : Bool) → ltb b 128 ≡ p → cond p (cond (ltb b end) (Value b 1) Bad) (more end b (numberIn end k s)) ≡ Value v t → goal p
       go true q e = e
@@ -294,8 +291,8 @@ module _ (end : ℕ) where
 
   longer : (k : ℕ) (s rest : List ℕ) → Longer k s rest
   unfolding Longer numberIn
-  longer zero s rest v t e = let z : _≡_ {A = ℕ} 0 1 = cc in absurd (omega arith)
-  longer (suc k) [] rest v t e = let z : _≡_ {A = ℕ} 0 1 = cc in absurd (omega arith)
+  longer zero s rest v t e = impossible cc
+  longer (suc k) [] rest v t e = impossible cc
   longer (suc k) (b ∷ s) rest v t e = longer-cons k b s rest (longer k s rest) v t e
 
   pub take-longer : (s rest : List ℕ) (n t : ℕ) → takeIn end s ≡ Value n t → takeIn end (s ++ rest) ≡ Value n t
@@ -304,8 +301,8 @@ module _ (end : ℕ) where
     where
       go : (r : Taken) → numberIn end 5 s ≡ r → within32 r ≡ Value n t → within32 (numberIn end 5 (s ++ rest)) ≡ Value n t
       go (Value w u) r e = ap within32 (longer 5 s rest w u r) ∙ e
-      go Cut r e = let z : _≡_ {A = ℕ} 0 1 = cc in absurd (omega arith)
-      go Bad r e = let z : _≡_ {A = ℕ} 0 1 = cc in absurd (omega arith)
+      go Cut r e = impossible cc
+      go Bad r e = impossible cc
 
 -- a short number is the one that is taken from the whole, and another byte follows its first
 pub short-some : (s : List ℕ) → 0 < shortSigned s .took

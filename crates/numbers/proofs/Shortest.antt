@@ -7,7 +7,8 @@ use mathlib.Core.List.{List, [], _∷_}
 use lib.Dec.{ltb}
 use lib.ListN.{length}
 use borrow.Author.Tests.{lt-ltb, le-ltb, ltb-true, ltb-false}
-use Rattle.numbers.specs.Leb.{bytesOf, over}
+use Rattle.numbers.specs.Leb.{bytesOf}
+use Rattle.numbers.specs.inside.Over.{over}
 
 -- every number below it takes at most k + 1 bytes
 abbrev pub room : ℕ → ℕ → ℕ

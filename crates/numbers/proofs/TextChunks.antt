@@ -8,7 +8,7 @@ use mathlib.Core.Logic.{_⊎_, inl, inr, ⊎-elim}
 use lib.Dec.{ltb}
 use lib.ListN.{getD}
 use borrow.Author.Tests.{ltb-true, ltb-false}
-use Rattle.numbers.specs.Text.{Below}
+use Rattle.numbers.specs.inside.Below.{Below}
 
 pub side : (a b : ℕ) → (a < b) ⊎ (b ≤ a)
 side a b = go (ltb a b) refl

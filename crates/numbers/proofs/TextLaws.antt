@@ -8,10 +8,12 @@ use mathlib.Core.Logic.{_⊎_, inl, inr, ⊎-elim}
 use lib.Dec.{T, ltb, eqb·suc-zero}
 use lib.ListN.{length}
 use Rattle.numbers.specs.Names.{Later, Char, one, two, three, four, Name, none, more}
-use Rattle.numbers.specs.Text.{Row, table, among, firstIn, step, onward, rest, text, Below}
+use Rattle.numbers.specs.Text.{Row, table, among, firstIn, step, onward, rest, text}
+use Rattle.numbers.specs.inside.Below.{Below}
 use Rattle.numbers.specs.declared.text.Step.the-variants.{Next, Bad}
 use Rattle.numbers.proofs.TextChunks.{side}
 use Rattle.numbers.proofs.TextRows.{among-in, among-low, among-high, ends, nth, found}
+use Rattle.numbers.proofs.Impossible.{impossible}
 
 -- ---- bytes below 128
 
@@ -144,7 +146,7 @@ rights =
 -- a first byte, row by row
 first-name : (rs : List Row) → Rights rs → (b : ℕ) (s : List ℕ) → ((n l h : ℕ) → rest n l h s ≡ true → Rest n l h s)
     → onward (firstIn rs b) (λ n l h. rest n l h s) ≡ true → Name (b ∷ s)
-first-name [] no-more b s sound e = let z : _≡_ {A = ℕ} 0 1 = cc in absurd (omega arith)
+first-name [] no-more b s sound e = impossible cc
 first-name (r ∷ rs) (_ by x also xs) b s sound e = go (among (r .from) (r .to) b) refl e (λ f. first-name rs xs b s sound f)
   where
     go : (t : Bool) → among (r .from) (r .to) b ≡ t
@@ -163,7 +165,7 @@ rest-sound (suc need) low high (b ∷ s) e = go (among low high b) refl e (λ f.
     go : (t : Bool) → among low high b ≡ t → onward (cond t (Next need 0x80 0xbf) Bad) (λ n l h. rest n l h s) ≡ true
         → (rest need 0x80 0xbf s ≡ true → Rest need 0x80 0xbf s) → Rest (suc need) low high (b ∷ s)
     go true a f later = next (among-low low high b a) (among-high low high b a) (later f)
-    go false a f later = let z : _≡_ {A = ℕ} 0 1 = cc in absurd (omega arith)
+    go false a f later = impossible cc
 
 pub text-sound : (s : List ℕ) → text s ≡ true → Name s
 unfolding text

@@ -10,7 +10,8 @@ use lib.Dec.{ltb}
 use lib.ListN.{length, set}
 use lib.Seq.{sets, set-set}
 use borrow.Author.Tests.{lt-ltb, le-ltb, ltb-true, ltb-false}
-use Rattle.numbers.specs.Leb.{bytesOf, over}
+use Rattle.numbers.specs.Leb.{bytesOf}
+use Rattle.numbers.specs.inside.Over.{over}
 use Rattle.numbers.proofs.Shortest.{bytes-last, bytes-more}
 
 -- the bytes of a number of two, and of one of three

@@ -10,10 +10,6 @@ use Rattle.numbers.specs.declared.leb.Taken.the-variants.{Value, Cut, Ba
 
 -- ---- putting
 
--- 1 where n is not below m, else 0
-abbrev pub over : ℕ → ℕ → ℕ
-over m n = cond (ltb n m) 0 1
-
 -- n in at most k bytes
 unfoldable pub bytesOf : ℕ → ℕ → ℕ → List ℕ
 bytesOf end zero n = []

@@ -5,3 +5,4 @@ pub mod Names
 pub mod Numbers
 pub mod Seen
 pub mod Text
+pub mod inside

@@ -12,7 +12,7 @@ use Rattle.numbers.specs.Leb.{takeSigned}
 abbrev pub number : ℕ → ℕ → Number
 number n t = record { value = n; took = t }
 
-unfoldable pub seen : Taken → Number
+abbrev pub seen : Taken → Number
 seen (Value n t) = number n t
 seen Cut = number 0 0
 seen Bad = number 0 0

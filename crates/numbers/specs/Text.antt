@@ -1,9 +1,8 @@
 -- Well-formed UTF-8, by table 3-7 of the Unicode Standard, a row for each line as printed.
-use Prim.Native.Nat.{ℕ, zero, suc, _<_, _≤_}
+use Prim.Native.Nat.{ℕ, zero, suc}
 use mathlib.Core.Bool.{Bool, false, cond, _&&_}
 use mathlib.Core.List.{List, [], _∷_}
 use lib.Dec.{leb, eqb}
-use lib.ListN.{getD}
 use Rattle.numbers.specs.declared.text.Step.{Step}
 use Rattle.numbers.specs.declared.text.Step.the-variants.{Next, Bad}
 
@@ -56,7 +55,3 @@ rest need low high (b ∷ s) = onward (step need low high b) (λ n l h. rest n l
 
 unfoldable pub text : List ℕ → Bool
 text s = rest 0 0x80 0xbf s
-
--- the bytes at places from..to, `to` not among them, are below m
-abbrev pub Below : ℕ → List ℕ → ℕ → ℕ → Type 0
-Below m s from to = (k : ℕ) → from ≤ k → k < to → getD s k 0 < m

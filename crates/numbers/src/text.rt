@@ -3,7 +3,8 @@ ghost use mathlib.Core.Bool.{true};
 ghost use mathlib.Core.Path.{_≡_};
 ghost use Prim.Native.Nat.{_+_, _≤_};
 ghost use lib.ListN.{length};
-ghost use Rattle.numbers.specs.Text.{Below, firstIn, step, table, text};
+ghost use Rattle.numbers.specs.inside.Below.{Below};
+ghost use Rattle.numbers.specs.Text.{firstIn, step, table, text};
 
 // What a byte of UTF-8 leads to.
 enum Step {

@@ -5,7 +5,7 @@ use native.Mathlib.Nat.{suc-mul}
 use native.Mathlib.Numerals.{add-one}
 use native.Mathlib.Omega.{arith}
 use mathlib.Core.Path.{_≡_, refl, sym, ap, _∙_, subst}
-use mathlib.Core.Bool.{Bool, true, false}
+use mathlib.Core.Bool.{Bool, true, false, cond}
 use mathlib.Core.List.{List, [], _∷_, _++_, append-assoc, append-nil}
 use lib.Dec.{leb}
 use lib.ListN.{length, take, drop, set, length-append, length-drop}
@@ -24,16 +24,16 @@ use Rattle.fields.specs.declared.Field.the-variants as field
 use Rattle.fields.specs.declared.Leaf.{Leaf}
 use Rattle.fields.specs.declared.Leaf.the-variants.{Fine, Bad}
 use Rattle.fields.specs.declared.Refusal.the-variants.{Text}
-use Rattle.fields.specs.Binary.{pick}
-use Rattle.fields.specs.Fill.{valueIn, sizeIn, fillName, fill}
-use Rattle.fields.specs.Judge.{wide}
-use Rattle.fields.specs.Run.{along, makes}
-use Rattle.fields.specs.Scan.{cut, named, scanName, scan}
+use Rattle.reading.specs.Fill.{valueIn, sizeIn, fillName, fill}
+use Rattle.fields.specs.Words.{wide}
+use Rattle.fields.specs.inside.Run.{along, makes}
+use Rattle.reading.specs.Scan.{cut, named, scanName, scan}
 use Rattle.fields.specs.Shape.{repeated, widths}
 use Rattle.fields.specs.Walk.{next, took}
-use Rattle.fields.proofs.FilledLaws.{fill-length}
-use Rattle.fields.proofs.ScanLaws.{Within, scan-within}
-use Rattle.reading.specs.Seen.{scans, fills, endOf}
+use Rattle.reading.proofs.FilledLaws.{fill-length}
+use Rattle.reading.proofs.ScanLaws.{Within, scan-within}
+use Rattle.reading.specs.inside.Steps.{scans, fills, endOf}
+use Rattle.numbers.proofs.Impossible.{impossible}
 
 -- ---- words stored
 
@@ -243,13 +243,13 @@ pub name-words : (g at : ℕ) (bs : List ℕ) (t m : ℕ) → scan 1 g field.Nam
     → (0 < seen (takeUnsigned bs) .took) × (seen (takeUnsigned bs) .took ≤ 5) × (seen (takeUnsigned bs) .value < 2 ^ 32)
     × (t ≡ seen (takeUnsigned bs) .took + seen (takeUnsigned bs) .value)
     × (fill g field.Name at bs ≡ (at + seen (takeUnsigned bs) .took) ∷ seen (takeUnsigned bs) .value ∷ [])
-unfolding scan scanName fill fillName seen
+unfolding scan scanName fill fillName
 name-words g at bs t m e = go (takeUnsigned bs) refl e
   where
-    fits : (n k : ℕ) (p q : Bool) → pick p (pick q (Fine (k + n) 2) (Bad Text k)) (cut bs) ≡ Fine t m → t ≡ k + n
+    fits : (n k : ℕ) (p q : Bool) → cond p (cond q (Fine (k + n) 2) (Bad Text k)) (cut bs) ≡ Fine t m → t ≡ k + n
     fits n k true true e = cc
-    fits n k true false e = let z : _≡_ {A = ℕ} 0 1 = cc in absurd (omega arith)
-    fits n k false q e = let z : _≡_ {A = ℕ} 0 1 = cc in absurd (omega arith)
+    fits n k true false e = impossible cc
+    fits n k false q e = impossible cc
 
     go : (x : Taken) → takeUnsigned bs ≡ x → named bs x ≡ Fine t m
         → (0 < seen x .took) × (seen x .took ≤ 5) × (seen x .value < 2 ^ 32) × (t ≡ seen x .took + seen x .value)
@@ -258,5 +258,5 @@ name-words g at bs t m e = go (takeUnsigned bs) refl e
         let b = taken-inside u32 bs n k x in
         let start : at + (0 + k) ≡ at + k = omega arith in
         (b .0, b .1, index-small bs n k x, fits n k (leb (k + n) (length bs)) (text (take n (drop k bs))) e, ap (λ j. j ∷ n ∷ []) start)
-    go taken.Cut x e = let z : _≡_ {A = ℕ} 0 1 = cc in absurd (omega arith)
-    go taken.Bad x e = let z : _≡_ {A = ℕ} 0 1 = cc in absurd (omega arith)
+    go taken.Cut x e = impossible cc
+    go taken.Bad x e = impossible cc

@@ -4,7 +4,7 @@ use Prim.Native.Nat.{ℕ, _+_, _^_, _≤_, _<_}
 use native.Mathlib.Nat.{zero-add}
 use native.Mathlib.Omega.{arith}
 use mathlib.Core.Path.{_≡_, refl, sym, ap, _∙_}
-use mathlib.Core.Bool.{Bool, true, false}
+use mathlib.Core.Bool.{Bool, true, false, cond}
 use mathlib.Core.List.{List}
 use lib.Dec.{eqb, ltb, leb}
 use lib.ListN.{length, take, drop}
@@ -22,24 +22,25 @@ use Rattle.fields.specs.declared.Leaf.{Leaf}
 use Rattle.fields.specs.declared.Leaf.the-variants.{Fine, Bad}
 use Rattle.fields.specs.declared.Refusal.{Refusal}
 use Rattle.fields.specs.declared.Refusal.the-variants.{Code, Newer}
-use Rattle.fields.specs.Binary.{pick}
-use Rattle.fields.specs.Fill.{primitive, fillName, fill}
-use Rattle.fields.specs.Scan.{byte, scanName, scanPrimitive, scan}
-use Rattle.reading.specs.Seen.{one, pair, oneOf, pairOf, pairIs, noPair, isPrimitive}
+use Rattle.reading.specs.Fill.{primitive, fillName, fill}
+use Rattle.reading.specs.Scan.{byte, scanName, scanPrimitive, scan}
+use Rattle.reading.specs.Seen.{one, pair, oneOf, pairOf, pairIs, noPair}
+use Rattle.reading.specs.inside.Steps.{isPrimitive}
+use Rattle.numbers.proofs.Impossible.{impossible}
 
 -- ---- primitives
 
 -- a test that fails does not hold
 no-flag : {P : Type 0} → false ≡ true → P
-no-flag e = let z : _≡_ {A = ℕ} 0 1 = cc in absurd (omega arith)
+no-flag e = impossible cc
 
 -- a byte of a primitive is scanned as what it stands for
 pub scan-is : (g b : ℕ) (l : Leaf) → isPrimitive g b ≡ true → scanPrimitive g b l ≡ l
 unfolding isPrimitive scanPrimitive
 scan-is g b l h = go (eqb b 0x64) (ltb g 2) refl (ltb b 0x73) (ltb b 0x80) h
   where
-    go : (p q : Bool) → ltb g 2 ≡ q → (r s : Bool) → pick p (leb 2 g) (pick r false s) ≡ true
-        → pick p (pick q (Bad Newer 0) l) (pick r (Bad Code 0) (pick s l (Bad Code 0))) ≡ l
+    go : (p q : Bool) → ltb g 2 ≡ q → (r s : Bool) → cond p (leb 2 g) (cond r false s) ≡ true
+        → cond p (cond q (Bad Newer 0) l) (cond r (Bad Code 0) (cond s l (Bad Code 0))) ≡ l
     go true true e r s h = no-flag (sym (lt-leb 2 g (ltb-true g 2 e)) ∙ h)
     go true false e r s h = refl
     go false q e true s h = no-flag h
@@ -52,8 +53,8 @@ pub scan-not : {X : Type 0} (f : Leaf → X) (x : X) → ((w : Refusal) (j : ℕ
 unfolding isPrimitive scanPrimitive
 scan-not f x bad g b l h = go (eqb b 0x64) (ltb g 2) refl (ltb b 0x73) (ltb b 0x80) h
   where
-    go : (p q : Bool) → ltb g 2 ≡ q → (r s : Bool) → pick p (leb 2 g) (pick r false s) ≡ false
-        → x ≡ f (pick p (pick q (Bad Newer 0) l) (pick r (Bad Code 0) (pick s l (Bad Code 0))))
+    go : (p q : Bool) → ltb g 2 ≡ q → (r s : Bool) → cond p (leb 2 g) (cond r false s) ≡ false
+        → x ≡ f (cond p (cond q (Bad Newer 0) l) (cond r (Bad Code 0) (cond s l (Bad Code 0))))
     go true true e r s h = bad Newer 0
     go true false e r s h = no-flag (sym h ∙ le-leb 2 g (ltb-false g 2 e))
     go false q e true s h = bad Code 0

@@ -1,5 +1,9 @@
 pub mod FillLaws
+pub mod FilledLaws
 pub mod LeafLaws
+pub mod ScanLaws
+pub mod ScannedLaws
 pub mod StepLaws
+pub mod TakenLaws
 pub mod TriedLaws
 pub mod ValueLaws

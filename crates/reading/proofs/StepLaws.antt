@@ -3,7 +3,7 @@ use Prim.Native.Nat.{ℕ, zero, suc, _+_, _-_, _≤_, _<_}
 use native.Mathlib.Nat.{add-zero}
 use native.Mathlib.Omega.{arith}
 use mathlib.Core.Path.{_≡_, refl, sym, ap, _∙_, subst}
-use mathlib.Core.Bool.{Bool, true, false}
+use mathlib.Core.Bool.{Bool, true, false, cond}
 use mathlib.Core.List.{List, [], _∷_, _++_}
 use lib.Dec.{eqb, ltb, leb}
 use lib.ListN.{length, take, drop, length-drop}
@@ -20,16 +20,16 @@ use Rattle.fields.specs.declared.Field.the-variants as field
 use Rattle.fields.specs.declared.Leaf.{Leaf}
 use Rattle.fields.specs.declared.Leaf.the-variants.{Fine, Bad}
 use Rattle.fields.specs.declared.Refusal.{Refusal}
-use Rattle.fields.specs.Binary.{pick, word, indexed}
-use Rattle.fields.specs.Fill.{valueIn, sizeIn, index, fillName, fill}
-use Rattle.fields.specs.Judge.{wide}
-use Rattle.fields.specs.Run.{along, makes, Under}
-use Rattle.fields.specs.Scan.{byte, there, asked, past, numbered, scanIndex, named, scanName, scanPrimitive, scanValue, zeroAt, either, scanOptional, thenZero, scanResult, scanChoice, onward, stringAt, counted, countAt, slotScan, endScan, headScan, firstScan, secondScan, scanExtern, scanBound, scanModule, three, scanReference, scanEither, scanOptionalIndex, scan}
+use Rattle.fields.specs.Words.{word, indexed, wide}
+use Rattle.reading.specs.Fill.{valueIn, sizeIn, index, fillName, fill}
+use Rattle.fields.specs.inside.Run.{along, makes, Under}
+use Rattle.reading.specs.Scan.{byte, there, asked, past, numbered, scanIndex, named, scanName, scanPrimitive, scanValue, zeroAt, either, scanOptional, thenZero, scanResult, scanChoice, onward, stringAt, counted, countAt, slotScan, endScan, headScan, firstScan, secondScan, scanExtern, scanBound, scanModule, three, scanReference, scanEither, scanOptionalIndex, scan}
 use Rattle.fields.specs.Shape.{repeated, widths}
 use Rattle.fields.specs.Walk.{next, took}
-use Rattle.fields.proofs.FilledLaws.{fill-length}
-use Rattle.fields.proofs.ScannedLaws.{one-takes, scans-under}
-use Rattle.reading.specs.Seen.{one, pair, oneOf, pairOf, scans, fills, endOf}
+use Rattle.reading.proofs.FilledLaws.{fill-length}
+use Rattle.reading.proofs.ScannedLaws.{one-takes, scans-under}
+use Rattle.reading.specs.Seen.{one, pair, oneOf, pairOf}
+use Rattle.reading.specs.inside.Steps.{scans, fills, endOf}
 
 -- what was scanned is not right
 abbrev pub Wrong : Leaf → Type 0
@@ -104,7 +104,7 @@ data Some : Leaf → Type 0 where
   bad : (w : Refusal) (j : ℕ) → Some (Bad w j)
 
 -- any answer, behind a byte or more
-pick-some : (b : Bool) {x y : Leaf} → Some x → Some y → Some (pick b x y)
+pick-some : (b : Bool) {x y : Leaf} → Some x → Some y → Some (cond b x y)
 pick-some true p q = p
 pick-some false p q = q
 
@@ -341,7 +341,7 @@ one-none g f bs k z = go (scan-some g f bs k) z
 
 -- an index is the number that is seen
 pub index-one : (g : ℕ) (bs : List ℕ) → seen (takeUnsigned bs) ≡ one g field.Index bs
-unfolding seen oneOf scan scanIndex fill
+unfolding oneOf scan scanIndex fill
 index-one g bs = go (takeUnsigned bs)
   where
     valued : Taken → List ℕ

@@ -3,7 +3,7 @@ use Prim.Native.Nat.{ℕ, _+_, _≤_, _<_, _^_}
 use native.Mathlib.Omega.{arith}
 use native.Mathlib.Nat.{add-zero}
 use mathlib.Core.Path.{_≡_, refl, sym, ap, _∙_}
-use mathlib.Core.Bool.{Bool, true, false}
+use mathlib.Core.Bool.{Bool, true, false, cond}
 use mathlib.Core.List.{List, [], _∷_, _++_}
 use lib.Dec.{eqb, ltb, leb}
 use lib.ListN.{length, getD, drop, length-drop}
@@ -22,20 +22,23 @@ use Rattle.fields.specs.declared.Read.the-variants as read
 use Rattle.fields.specs.declared.Refusal.{Refusal}
 use Rattle.fields.specs.declared.Refusal.the-variants as refusal
 use Rattle.fields.specs.declared.Shape.{Shape}
-use Rattle.fields.specs.Binary.{pick}
-use Rattle.fields.specs.Fill.{index, fill}
-use Rattle.fields.specs.Read.{leftRow, reader, scanned, filled, countedScan, countedFill, roomed, readFound, readItem, scannedFound, scannedItem, refusalOf}
-use Rattle.fields.specs.Run.{along, makes, after}
-use Rattle.fields.specs.Scan.{byte, cut, scanIndex, scan}
+use Rattle.reading.specs.Fill.{index, fill}
+use Rattle.fields.specs.Answers.{leftRow}
+use Rattle.reading.specs.Read.{reader, scanned, filled, roomed, readFound, readItem, scannedFound, scannedItem, refusalOf}
+use Rattle.reading.specs.inside.Stages.{countedScan, countedFill}
+use Rattle.fields.specs.inside.Run.{along, makes, after}
+use Rattle.fields.specs.inside.Stages.{countedFields}
+use Rattle.reading.specs.Scan.{byte, cut, scanIndex, scan}
 use Rattle.fields.specs.Shape.{opening, group, closing, repeated, seq}
 use Rattle.fields.specs.Table.{twoOf, manyOf}
 use Rattle.fields.specs.Walk.{next, walk}
-use Rattle.fields.proofs.FilledLaws.{fields-filled}
 use Rattle.fields.proofs.RunLaws.{along-append, walk-end, outs-last}
-use Rattle.fields.proofs.ScannedLaws.{scanned-counted, counted-value}
+use Rattle.fields.proofs.StageLaws.{walk-counted, outs-staged}
+use Rattle.reading.proofs.ScannedLaws.{tells, counted-value}
 use Rattle.reading.specs.declared.Tried.the-variants.{Item, Not}
-use Rattle.reading.specs.Seen.{within}
-use Rattle.reading.specs.Tried.{leftTried, roomy, tried, triedFound}
+use Rattle.reading.specs.Seen.{within, roomy}
+use Rattle.reading.specs.inside.Tried.{leftTried, tried, triedFound}
+use Rattle.numbers.proofs.Impossible.{impossible}
 
 -- ---- no field, and a byte that makes no word
 
@@ -57,13 +60,13 @@ fixed-seen lead g input at b h k e =
 -- ---- what is not
 
 not-item : {P : Type 0} {q e : ℕ} → Item q e ≡ Not → P
-not-item e = let z : _≡_ {A = ℕ} 0 1 = cc in absurd (omega arith)
+not-item e = impossible cc
 
 not-fine : {P : Type 0} {w : Refusal} {j t m : ℕ} → Bad w j ≡ Fine t m → P
-not-fine e = let z : _≡_ {A = ℕ} 0 1 = cc in absurd (omega arith)
+not-fine e = impossible cc
 
 not-true : {P : Type 0} → false ≡ true → P
-not-true e = let z : _≡_ {A = ℕ} 0 1 = cc in absurd (omega arith)
+not-true e = impossible cc
 
 -- ---- an item of a shape
 
@@ -74,10 +77,10 @@ unfolding tried roomed roomy
 read-done (Bad w j) ws row new q e h = not-item (ap (λ x. x .answer) h)
 read-done (Fine a m) ws row new q e h = go (ltb 16384 m) (leb m (length row)) h
   where
-    go : (s t : Bool) → leftTried (Item q e) new ≡ pick (pick s false t) (leftTried (Item m a) (sets row 0 ws)) (leftTried Not row)
+    go : (s t : Bool) → leftTried (Item q e) new ≡ cond (cond s false t) (leftTried (Item m a) (sets row 0 ws)) (leftTried Not row)
         → leftRow (read.Item q e) new
-        ≡ pick s (leftRow (read.Refused refusal.Room m) row)
-        (pick t (leftRow (read.Item m a) (sets row 0 ws)) (leftRow (read.Refused refusal.Room m) row))
+        ≡ cond s (leftRow (read.Refused refusal.Room m) row)
+        (cond t (leftRow (read.Item m a) (sets row 0 ws)) (leftRow (read.Refused refusal.Room m) row))
     go true t h = not-item (ap (λ x. x .answer) h)
     go false true h =
         let i : Item q e ≡ Item m a = ap (λ x. x .answer) h in
@@ -93,10 +96,10 @@ unfolding tried roomed roomy
 read-not (Bad w j) ws row new h = ap (λ x. leftRow (read.Refused w j) (x .row)) h
 read-not (Fine a m) ws row new h = go (ltb 16384 m) (leb m (length row)) h
   where
-    go : (s t : Bool) → leftTried Not new ≡ pick (pick s false t) (leftTried (Item m a) (sets row 0 ws)) (leftTried Not row)
+    go : (s t : Bool) → leftTried Not new ≡ cond (cond s false t) (leftTried (Item m a) (sets row 0 ws)) (leftTried Not row)
         → leftRow (read.Refused refusal.Room m) new
-        ≡ pick s (leftRow (read.Refused refusal.Room m) row)
-        (pick t (leftRow (read.Item m a) (sets row 0 ws)) (leftRow (read.Refused refusal.Room m) row))
+        ≡ cond s (leftRow (read.Refused refusal.Room m) row)
+        (cond t (leftRow (read.Item m a) (sets row 0 ws)) (leftRow (read.Refused refusal.Room m) row))
     go true t h = ap (λ x. leftRow (read.Refused refusal.Room m) (x .row)) h
     go false true h = not-item (sym (ap (λ x. x .answer) h))
     go false false h = ap (λ x. leftRow (read.Refused refusal.Room m) (x .row)) h
@@ -111,7 +114,7 @@ within-limits lead g input h =
     go (ltb (2 ^ 30) (length input)) (ltb g 1) (ltb 3 g) (ltb g lead) (ltb 0 (length input)) refl refl refl refl refl h
   where
     go : (a b c d z : Bool) → ltb (2 ^ 30) (length input) ≡ a → ltb g 1 ≡ b → ltb 3 g ≡ c → ltb g lead ≡ d → ltb 0 (length input) ≡ z
-        → pick a false (pick b false (pick c false (pick d false z))) ≡ true
+        → cond a false (cond b false (cond c false (cond d false z))) ≡ true
         → (length input ≤ 2 ^ 30) × (1 ≤ g) × (g ≤ 3) × (lead ≤ g) × (0 < length input)
     go true b c d z ea eb ec ed ez h = not-true h
     go false true c d z ea eb ec ed ez h = not-true h
@@ -170,16 +173,16 @@ module _ (f : Found) (kind lead g : ℕ) (input row : List ℕ) where
       go (ltb (2 ^ 30) (length input)) (ltb g 1) (ltb 3 g) (ltb g lead) (ltb 0 (length input)) (eqb (length input) 0) refl refl refl h
     where
       go : (a b c d z s : Bool) → ltb g lead ≡ d → ltb 0 (length input) ≡ z → eqb (length input) 0 ≡ s
-          → pick a false (pick b false (pick c false (pick d false z))) ≡ false
+          → cond a false (cond b false (cond c false (cond d false z))) ≡ false
           → leftRow
           (refusalOf
-          (pick a (Bad refusal.Limit 0)
-          (pick b (Bad refusal.Limit 0) (pick c (Bad refusal.Limit 0) (pick s (Bad refusal.Cut 0) (scannedFound f lead g input))))))
+          (cond a (Bad refusal.Limit 0)
+          (cond b (Bad refusal.Limit 0) (cond c (Bad refusal.Limit 0) (cond s (Bad refusal.Cut 0) (scannedFound f lead g input))))))
           row
-          ≡ pick a (leftRow (read.Refused refusal.Limit 0) row)
-          (pick b (leftRow (read.Refused refusal.Limit 0) row)
-          (pick c (leftRow (read.Refused refusal.Limit 0) row)
-          (pick s (leftRow (read.Refused refusal.Cut 0) row) (readFound f kind lead g input row))))
+          ≡ cond a (leftRow (read.Refused refusal.Limit 0) row)
+          (cond b (leftRow (read.Refused refusal.Limit 0) row)
+          (cond c (leftRow (read.Refused refusal.Limit 0) row)
+          (cond s (leftRow (read.Refused refusal.Cut 0) row) (readFound f kind lead g input row))))
       go true b c d z s ed ez es h = refl
       go false true c d z s ed ez es h = refl
       go false false true d z s ed ez es h = refl
@@ -200,7 +203,7 @@ lead-newer lead g b s input is k e q h =
     fixed : (t m : ℕ) → scan lead g (field.Fixed b) input ≡ Fine t m → ⊥
     fixed t m x = go (leb (length input) 0) (eqb (byte input 0) b) (rw (lt-ltb g lead k) at x)
       where
-        go : (a c : Bool) → pick a (cut input) (pick c (Bad refusal.Newer 0) (Bad refusal.Code 0)) ≡ Fine t m → ⊥
+        go : (a c : Bool) → cond a (cut input) (cond c (Bad refusal.Newer 0) (Bad refusal.Code 0)) ≡ Fine t m → ⊥
         go true c x = not-fine x
         go false true x = not-fine x
         go false false x = not-fine x
@@ -286,9 +289,8 @@ module _ (lead g b : ℕ) (c d : Field) (input : List ℕ) (some : 0 < length in
 
   pub many-scanned : scanned lead g (manyOf (field.Fixed b) field.Nothing field.Nothing c d field.Nothing) input
       ≡ countedScan lead g (listOf c d field.Nothing) input 1 1
-  unfolding countedScan
   many-scanned =
-      sym (scanned-counted lead g input many (Fine 1 1) (sym many-opens) 1 1 refl refl (countedScan lead g many input 1 1) refl)
+      sym (walk-counted (tells lead g input) many 0 1 (Fine 1 1) (sym many-opens) 1 1 refl refl (countedScan lead g many input 1 1) refl)
 
   many-makes : (fs : List Field)
       → makes (scan lead g) (fill g) (opening many ++ fs) 0 input ≡ makes (scan lead g) (fill g) fs 1 (drop 1 input)
@@ -297,11 +299,9 @@ module _ (lead g b : ℕ) (c d : Field) (input : List ℕ) (some : 0 < length in
 
   pub many-filled : (kind : ℕ) → filled kind lead g (manyOf (field.Fixed b) field.Nothing field.Nothing c d field.Nothing) input
       ≡ kind ∷ countedFill lead g (listOf c d field.Nothing) input 1
-  unfolding countedFill
   many-filled kind =
       ap (λ ws. kind ∷ ws)
-      (sym (fields-filled lead g input many 1 1 many-opens)
-      ∙ many-makes (field.Index ∷ (repeated (index (drop 1 input)) (group many) ++ closing many)))
+      (outs-staged (tells lead g input) many 0 1 1 1 many-opens ∙ many-makes (countedFields many (index (drop 1 input))))
 
 -- behind a first field of one byte and one word
 module _ (lead g : ℕ) (a c d e : Field) (input : List ℕ) (first : scan lead g a input ≡ Fine 1 1) where
@@ -313,9 +313,8 @@ module _ (lead g : ℕ) (a c d e : Field) (input : List ℕ) (first : scan lead 
   async-opens = rw first
 
   pub async-scanned : scanned lead g (manyOf field.Nothing field.Nothing a c d e) input ≡ countedScan lead g (listOf c d e) input 1 2
-  unfolding countedScan
   async-scanned =
-      sym (scanned-counted lead g input function (Fine 1 2) (sym async-opens) 1 2 refl refl (countedScan lead g function input 1 2) refl)
+      sym (walk-counted (tells lead g input) function 0 1 (Fine 1 2) (sym async-opens) 1 2 refl refl (countedScan lead g function input 1 2) refl)
 
   async-makes : (fs : List Field)
       → makes (scan lead g) (fill g) (opening function ++ fs) 0 input ≡ fill g a 0 input ++ makes (scan lead g) (fill g) fs 1 (drop 1 input)
@@ -324,11 +323,9 @@ module _ (lead g : ℕ) (a c d e : Field) (input : List ℕ) (first : scan lead 
 
   pub async-filled : (kind : ℕ) → filled kind lead g (manyOf field.Nothing field.Nothing a c d e) input
       ≡ kind ∷ (fill g a 0 input ++ countedFill lead g (listOf c d e) input 1)
-  unfolding countedFill
   async-filled kind =
       ap (λ ws. kind ∷ ws)
-      (sym (fields-filled lead g input function 1 2 async-opens)
-      ∙ async-makes (field.Index ∷ (repeated (index (drop 1 input)) (group function) ++ closing function)))
+      (outs-staged (tells lead g input) function 0 1 1 2 async-opens ∙ async-makes (countedFields function (index (drop 1 input))))
 
 -- ---- what is counted
 
@@ -336,7 +333,7 @@ module _ (lead g : ℕ) (s : Shape) (input : List ℕ) (at made : ℕ) where
   -- no count, no item
   pub counted-none : ((n t : ℕ) → takeUnsigned (drop at input) ≡ taken.Value n t → ⊥)
       → (w : Refusal) × (j : ℕ) × (countedScan lead g s input at made ≡ Bad w j)
-  unfolding countedScan along scan scanIndex
+  unfolding along scan scanIndex
   counted-none h = go (takeUnsigned (drop at input)) refl
     where
       go : (x : Taken) → takeUnsigned (drop at input) ≡ x → (w : Refusal) × (j : ℕ) × (countedScan lead g s input at made ≡ Bad w j)
@@ -355,5 +352,5 @@ module _ (lead g : ℕ) (s : Shape) (input : List ℕ) (at made : ℕ) where
 -- the count, and their words
 pub counted-words : (lead g : ℕ) (s : Shape) (input : List ℕ) (at n t : ℕ) → takeUnsigned (drop at input) ≡ taken.Value n t
     → countedFill lead g s input at ≡ n ∷ makes (scan lead g) (fill g) (repeated n (group s) ++ closing s) (at + t) (drop (at + t) input)
-unfolding countedFill makes fill scan scanIndex
+unfolding makes fill scan scanIndex
 counted-words lead g s input at n t e = rw (e, drop-drop t at input)

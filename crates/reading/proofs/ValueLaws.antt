@@ -1,9 +1,9 @@
 -- A V, an O and a function's result as straight code reads them: an index where a number is seen, else a primitive; and what stands
 -- behind a byte.
-use Prim.Native.Nat.{ℕ, _+_, _≤_, _<_}
+use Prim.Native.Nat.{ℕ, _≤_, _<_}
 use native.Mathlib.Omega.{arith}
 use mathlib.Core.Path.{_≡_, refl, sym, ap, subst, _∙_}
-use mathlib.Core.Bool.{Bool, true, false}
+use mathlib.Core.Bool.{Bool, true, false, cond}
 use mathlib.Core.List.{List, [], _∷_}
 use lib.Dec.{eqb, ltb, leb}
 use lib.ListN.{length, drop}
@@ -21,11 +21,12 @@ use Rattle.fields.specs.declared.Leaf.{Leaf}
 use Rattle.fields.specs.declared.Leaf.the-variants.{Fine, Bad}
 use Rattle.fields.specs.declared.Refusal.{Refusal}
 use Rattle.fields.specs.declared.Refusal.the-variants.{Cut, Code, Newer}
-use Rattle.fields.specs.Binary.{pick}
-use Rattle.fields.specs.Fill.{fill, fillValue, fillOptional}
-use Rattle.fields.specs.Scan.{scan, scanValue, scanPrimitive, scanOptional, scanResult, byte, numbered, past}
+use Rattle.reading.specs.Fill.{fill, fillValue, fillOptional}
+use Rattle.reading.specs.Scan.{scan, scanValue, scanPrimitive, scanOptional, scanResult, byte, numbered, past}
 use Rattle.reading.specs.declared.Pair.{Pair}
-use Rattle.reading.specs.Seen.{one, oneOf, pair, pairOf, pairIs, noPair, behindOne}
+use Rattle.reading.specs.Seen.{one, oneOf, pair, pairOf, pairIs, noPair}
+use Rattle.reading.specs.inside.Steps.{behindOne}
+use Rattle.numbers.proofs.Impossible.{impossible}
 
 -- ---- a V
 
@@ -56,8 +57,7 @@ value-index g bs n t e = go (ltb (byte bs 0) 0x40) refl (ltb (byte bs 0) 0x80) r
         ap (λ (x : Number). pairIs (x .took) 1 (x .value)) same ∙ value-low g bs some low
     go false p true r =
         let no : taken.Value n t ≡ taken.Bad = sym e ∙ take-past s33 bs (ltb-false (byte bs 0) 0x40 p) (ltb-true (byte bs 0) 0x80 r) in
-        let z : _≡_ {A = ℕ} 0 1 = cc in
-        absurd (omega arith)
+        impossible cc
     go false p false r = value-long g bs n t some (ltb-false (byte bs 0) 0x80 r) e
 
 -- no byte
@@ -74,7 +74,7 @@ unfolding scanPrimitive oneOf pairOf
 primitive-two g b x = go (eqb b 0x64) (ltb g 2) (ltb b 0x73) (ltb b 0x80)
   where
     at : Bool → Bool → Bool → Bool → ℕ → Leaf
-    at p q r s m = pick p (pick q (Bad Newer 0) (Fine 1 m)) (pick r (Bad Code 0) (pick s (Fine 1 m) (Bad Code 0)))
+    at p q r s m = cond p (cond q (Bad Newer 0) (Fine 1 m)) (cond r (Bad Code 0) (cond s (Fine 1 m) (Bad Code 0)))
 
     go : (p q r s : Bool)
         → pairIs (oneOf (at p q r s 1) (x ∷ []) .took) 0 (oneOf (at p q r s 1) (x ∷ []) .value) ≡ pairOf (at p q r s 2) (0 ∷ x ∷ [])
@@ -141,7 +141,7 @@ data Few : Leaf → Type 0 where
   fine : (t m : ℕ) → 0 < t → t ≤ 5 → Few (Fine t m)
   bad : (w : Refusal) (j : ℕ) → Few (Bad w j)
 
-pick-few : (b : Bool) {l r : Leaf} → Few l → Few r → Few (pick b l r)
+pick-few : (b : Bool) {l r : Leaf} → Few l → Few r → Few (cond b l r)
 pick-few true l r = l
 pick-few false l r = r
 
@@ -158,7 +158,7 @@ unfolding scanValue scanPrimitive
 value-few g bs =
     let b = byte bs 0 in
     let byte-few : Few (Fine 1 2) = fine 1 2 (omega arith) (omega arith) in
-    let other : Few (pick (ltb b 0x73) (Bad Code 0) (pick (ltb b 0x80) (Fine 1 2) (Bad Code 0))) =
+    let other : Few (cond (ltb b 0x73) (Bad Code 0) (cond (ltb b 0x80) (Fine 1 2) (Bad Code 0))) =
     pick-few (ltb b 0x73) (bad _ _) (pick-few (ltb b 0x80) byte-few (bad _ _)) in
     pick-few (leb (length bs) 0) (bad _ _)
     (pick-few (ltb b 0x40) byte-few
@@ -215,7 +215,7 @@ unfolding scan fill scanResult scanValue pairOf
 result-short g [] h = refl
 result-short g (b ∷ []) h = go (eqb b 0) (eqb b 1)
   where
-    go : (p q : Bool) → noPair ≡ pairOf (pick p (past 1 (scanValue g [])) (pick q (Bad Cut 1) (Bad Code 0))) (fillOptional 0 (b ∷ []))
+    go : (p q : Bool) → noPair ≡ pairOf (cond p (past 1 (scanValue g [])) (cond q (Bad Cut 1) (Bad Code 0))) (fillOptional 0 (b ∷ []))
     go true q = refl
     go false true = refl
     go false false = refl

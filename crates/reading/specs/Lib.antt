@@ -1,2 +1,5 @@
+pub mod Fill
+pub mod Read
+pub mod Scan
 pub mod Seen
-pub mod Tried
+pub mod inside

@@ -1,12 +1,18 @@
-// Reading an item in straight code: the steps that every crate of kinds uses. Each is lent the input from its place on, and says how
-// many bytes its field takes, 0 where that is not right. Every call takes every input.
+// Bytes to rows: the walk over an item that finds what is wrong with it, and the steps that the straight code of every kind uses. Each
+// step is lent the input from its place on, and says how many bytes its field takes, 0 where that is not right.
+mod item;
+mod scan;
+
+use fields::INPUT_BYTES;
+use fields::ROW_WORDS;
+pub use item::item_refusal;
 use numbers::Number;
 ghost use Prim.Native.Nat.{_≤_};
 ghost use mathlib.Core.Path.{_≡_};
 ghost use Rattle.fields.specs.declared.Field.the-variants as field;
-ghost use Rattle.reading.specs.Seen.{one, pair, noPair, behindOne, isPrimitive, within};
-ghost use Rattle.fields.specs.Fill as words;
-ghost use Rattle.reading.specs.Tried.{roomy};
+ghost use Rattle.reading.specs.Seen.{one, pair, noPair, within, roomy};
+ghost use Rattle.reading.specs.inside.Steps.{behindOne, isPrimitive};
+ghost use Rattle.reading.specs.Fill as words;
 
 // A field of two words: how many bytes it takes, 0 where it is not right, and its words.
 pub struct Pair {
@@ -176,7 +182,7 @@ pub fn name(bs: &[u8]) -> Pair
 pub fn is_within(lead: u32, grade: u32, input: &[u8]) -> bool
     ensures { λ r. ⌜ r ≡ within lead grade (now (input .entry)) ⌝ }
 {
-    if 0x4000_0000 < input.len() {
+    if INPUT_BYTES < input.len() {
         return false;
     }
     if grade < 1 {
@@ -195,7 +201,7 @@ pub fn is_within(lead: u32, grade: u32, input: &[u8]) -> bool
 pub fn has_room(words: usize, room: usize) -> bool
     ensures { λ r. ⌜ r ≡ roomy words room ⌝ }
 {
-    if 16384 < words {
+    if ROW_WORDS < words {
         return false;
     }
     words <= room

@@ -1,34 +1,24 @@
 -- Rows that are all accepted from a fresh section on: the used part of the body is exactly their bytes, one after the other, and the
 -- count is their number. And no step changes a byte of the body outside what it counts.
-use Prim.Native.Nat.{ℕ, suc, _+_, _≤_, _<_}
+use Prim.Native.Nat.{ℕ, suc, _+_, _≤_}
 use native.Mathlib.Omega.{arith}
-use mathlib.Core.Logic.{_⊎_}
 use mathlib.Core.Path.{_≡_, refl, ap, _∙_}
-use mathlib.Core.List.{List, [], _∷_, _++_}
+use mathlib.Core.List.{List, [], _∷_}
 use lib.Dec.{ltb}
-use lib.ListN.{length, getD, take}
-use lib.Seq.{sets, length-sets}
+use lib.ListN.{length}
+use lib.Seq.{length-sets}
 use Rattle.numbers.proofs.BytesLaws.{sets-outside, sets-back}
 use Rattle.fields.specs.declared.Answer.{Answer}
-use Rattle.fields.specs.declared.Answer.the-variants.{Size, Refused}
 use Rattle.fields.specs.declared.Field.the-variants as field
 use Rattle.sections.specs.declared.Phase.{Phase}
 use Rattle.sections.specs.declared.Phase.the-variants.{Closed, Opened, Asynced, Parametered}
 use Rattle.sections.specs.declared.Section.{Section}
 use Rattle.sections.specs.Section.{familyBytes, fresh, sounds}
 use Rattle.sections.specs.Steps.{Turn, asyncIn, paramsIn, resultIn, abandonIn, asyncing, paraming, resulting, abandoning}
-use Rattle.sections.specs.Runs.{Step, Row, Open, Async, Params, Result, Abandon, turn, Stand, runs, AllAccepted, Entry, rows}
+use Rattle.sections.specs.Runs.{Step, Row, Open, Async, Params, Result, Abandon, turn, runs, AllAccepted, Entry, rows, Kept, allBytes, Begun}
 use Rattle.sections.proofs.TurnLaws.{Turns, refuses, stores, Grows, accepted-grows, grows-then, either, asyncShape, paramsShape, resultShape, shape-turns, row-turns, open-turns}
 
 -- ---- outside what is counted
-
--- where n bytes are counted, the body is as it was before the used part and from n bytes behind it on; where none, all is as it was
-abbrev KeptBy : Section → List ℕ → Answer → Section → List ℕ → Type 0
-KeptBy s body (Size n) t new = (i : ℕ) → (i < s .used) ⊎ (s .used + n ≤ i) → getD new i 0 ≡ getD body i 0
-KeptBy s body (Refused w n) t new = (t ≡ s) × (new ≡ body)
-
-abbrev pub Kept : Section → List ℕ → Turn → Type 0
-Kept s body t = KeptBy s body (t .gave .answer) (t .gave .section) (t .body)
 
 turns-kept : {s : Section} {body : List ℕ} {r : Answer} {bs : List ℕ} {count : ℕ} {phase : Phase} {t : Turn} → Turns s body r bs count phase t → Kept s body t
 turns-kept (refuses w n) = (refl, refl)
@@ -75,11 +65,6 @@ outside Abandon s body = either (Kept s body) (sounds s (length body)) _ _ (aban
 
 -- ---- rows one after the other
 
--- their bytes in order
-abbrev pub allBytes : ℕ → List Entry → List ℕ
-allBytes family [] = []
-allBytes family (e ∷ es) = familyBytes family (e .pool) (e .row) ++ allBytes family es
-
 -- what the rows make of a closed section that can stand over its body
 rows-grow : (es : List Entry) (s : Section) (body : List ℕ) → s .phase ≡ Closed → s .used ≤ length body → AllAccepted (rows es) s body
     → Grows s body (allBytes (s .family) es) (s .count + length es) Closed (runs (rows es) s body .section) (runs (rows es) s body .body)
@@ -92,15 +77,6 @@ rows-grow (e ∷ es) s body p h a =
     let l : length (t .body) ≡ length body = ap length (g .content) ∙ length-sets body (s .used) (familyBytes (s .family) (e .pool) (e .row)) in
     rw (g .family, n) at
     (grows-then g (rows-grow es (t .gave .section) (t .body) (g .stands) (omega (arith, g .used, g .room, l)) (a .1)))
-
--- the section and the body at the end, from a fresh section over `body` on
-pub record Begun (family : ℕ) (es : List Entry) (body : List ℕ) (end : Stand) : Type 0 where
-  pub family-is : end .section .family ≡ family
-  pub used-is : end .section .used ≡ length (allBytes family es)
-  pub count-is : end .section .count ≡ length es
-  pub closed : end .section .phase ≡ Closed
-  pub content : end .body ≡ sets body 0 (allBytes family es)
-  pub used-part : take (end .section .used) (end .body) ≡ allBytes family es
 
 pub begun-fresh : (family : ℕ) (es : List Entry) (body : List ℕ) → AllAccepted (rows es) (fresh family) body
     → Begun family es body (runs (rows es) (fresh family) body)

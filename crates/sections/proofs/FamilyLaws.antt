@@ -2,8 +2,8 @@
 use Prim.Native.Nat.{ℕ}
 use native.Mathlib.Omega.{arith}
 use mathlib.Core.Path.{_≡_, refl, ap, _∙_}
-use mathlib.Core.Bool.{Bool, true, false}
-use mathlib.Core.List.{List, [], _∷_, _++_, append-nil}
+use mathlib.Core.Bool.{Bool, true, false, cond}
+use mathlib.Core.List.{List, [], _∷_}
 use lib.Dec.{eqb, ltb}
 use lib.ListN.{length, drop, length-append}
 use Rattle.fields.specs.declared.Answer.{Answer}
@@ -12,15 +12,17 @@ use Rattle.fields.specs.declared.Field.the-variants as field
 use Rattle.fields.specs.declared.Found.{Found}
 use Rattle.fields.specs.declared.Found.the-variants.{Is}
 use Rattle.fields.specs.declared.Refusal.the-variants as refusal
-use Rattle.fields.specs.Binary.{pick, word, bytes, canonopt}
-use Rattle.fields.specs.Judge.{wide}
-use Rattle.fields.specs.Row.{measuredFound, measuredRow, rowBytes, writeRow}
-use Rattle.fields.specs.Shape.{repeated, widths, rowWidth}
-use Rattle.fields.specs.Table.{shapeIn, elements}
-use Rattle.fields.specs.Write.{stored, written}
-use Rattle.fields.proofs.AnswerLaws.{Sized}
-use Rattle.fields.proofs.TableLaws.{strings, written-right, group-bytes, same-elements}
-use Rattle.fields.proofs.WholeLaws.{accepted, size-is-length}
+use Rattle.fields.specs.Words.{word, wide}
+use Rattle.writing.specs.Binary.{bytes}
+use Rattle.writing.specs.Row.{measuredFound, measuredRow, rowBytes, writeRow}
+use Rattle.fields.specs.Shape.{widths, rowWidth}
+use Rattle.fields.specs.Table.{shapeIn}
+use Rattle.writing.specs.Write.{stored, written}
+use Rattle.writing.proofs.AnswerLaws.{Sized}
+use Rattle.writing.proofs.GroupLaws.{choice-element}
+use Rattle.writing.proofs.RowLaws.{only-groups}
+use Rattle.writing.proofs.TableLaws.{strings, written-right}
+use Rattle.writing.proofs.WholeLaws.{accepted, size-is-length}
 use Rattle.types.specs.Write as types
 use Rattle.types.specs.Write.{measuredType, writeType}
 use Rattle.imports.specs.Write as imports
@@ -31,35 +33,38 @@ use Rattle.sections.specs.declared.Phase.{Phase}
 use Rattle.sections.specs.declared.Section.{Section}
 use Rattle.sections.specs.Section.{measuredFamily, familyBytes, writeFamily}
 use Rattle.sections.specs.Steps.{refuse, wrote}
+use Rattle.fields.specs.Answers as answers
+use Rattle.numbers.proofs.Impossible.{impossible}
 
 pub family-stored : (family : ℕ) (row pool body : List ℕ) (at : ℕ)
     → writeFamily family row pool body at ≡ stored (measuredFamily family row pool) (familyBytes family pool row) body at
-unfolding writeFamily measuredFamily familyBytes writeType measuredType writeCanonical writeImport measuredImport writeRow
-family-stored family row pool body at = go (eqb family 7) (eqb family 8)
+unfolding writeFamily measuredFamily familyBytes writeType measuredType writeCanonical writeImport measuredImport writeRow stored
+family-stored family row pool body at = go (eqb family 7) (eqb family 8) (eqb family 10)
   where
     by : {X : Type 0} → Bool → Bool → X → X → X → X
-    by a b t c i = pick a t (pick b c i)
+    by a b t c i = cond a t (cond b c i)
 
-    go : (a b : Bool)
-        → by a b (writeType row pool body at) (writeCanonical row pool body at) (writeImport row pool body at)
-        ≡ stored (by a b (measuredType row pool) (measuredCanonical row pool) (measuredImport row pool))
+    go : (a b c : Bool)
+        → by a b (writeType row pool body at) (writeCanonical row pool body at) (cond c (writeImport row pool body at) (answers.refuse refusal.Limit 0 body))
+        ≡ stored (by a b (measuredType row pool) (measuredCanonical row pool) (cond c (measuredImport row pool) (Refused refusal.Limit 0)))
         (by a b (rowBytes (types.shapeOf (word row 0)) pool row) (canonicalBytes pool row) (rowBytes (imports.shapeOf (word row 0)) pool row)) body at
-    go true b = refl
-    go false true = refl
-    go false false = refl
+    go true b c = refl
+    go false true c = refl
+    go false false true = refl
+    go false false false = refl
 
 -- ---- LIMIT: a row's writer tests for it as the row's step does
 
 abbrev limited : {X : Type 0} → List ℕ → List ℕ → X → X → X
-limited row pool limit x = pick (ltb 16384 (length row)) limit (pick (ltb 65536 (length pool)) limit x)
+limited row pool limit x = cond (ltb 16384 (length row)) limit (cond (ltb 65536 (length pool)) limit x)
 
 row-limited : (found : Found) (row pool : List ℕ) → limited row pool (Refused refusal.Limit 0) (measuredRow found row pool) ≡ measuredRow found row pool
 unfolding measuredRow
 row-limited found row pool =
-    go (ltb 16384 (length row)) (ltb 65536 (length pool)) (pick (eqb (length row) 0) (Refused refusal.Row 0) (measuredFound found row pool))
+    go (ltb 16384 (length row)) (ltb 65536 (length pool)) (cond (eqb (length row) 0) (Refused refusal.Row 0) (measuredFound found row pool))
   where
     twice : Bool → Bool → Answer → Answer
-    twice x y a = pick x (Refused refusal.Limit 0) (pick y (Refused refusal.Limit 0) a)
+    twice x y a = cond x (Refused refusal.Limit 0) (cond y (Refused refusal.Limit 0) a)
 
     go : (x y : Bool) (a : Answer) → twice x y (twice x y a) ≡ twice x y a
     go true y a = refl
@@ -69,14 +74,23 @@ row-limited found row pool =
 family-limited : (family : ℕ) (row pool : List ℕ)
     → limited row pool (Refused refusal.Limit 0) (measuredFamily family row pool) ≡ measuredFamily family row pool
 unfolding measuredFamily measuredType measuredCanonical measuredImport
-family-limited family row pool = go (eqb family 7) (eqb family 8)
+family-limited family row pool = go (eqb family 7) (eqb family 8) (eqb family 10)
   where
-    go : (a b : Bool)
-        → limited row pool (Refused refusal.Limit 0) (pick a (measuredType row pool) (pick b (measuredCanonical row pool) (measuredImport row pool)))
-        ≡ pick a (measuredType row pool) (pick b (measuredCanonical row pool) (measuredImport row pool))
-    go true b = row-limited _ row pool
-    go false true = row-limited _ row pool
-    go false false = row-limited _ row pool
+    by : Bool → Bool → Bool → Answer
+    by a b c =
+        cond a (measuredType row pool)
+        (cond b (measuredCanonical row pool) (cond c (measuredImport row pool) (Refused refusal.Limit 0)))
+
+    none : (x y : Bool) → cond x (Refused refusal.Limit 0) (cond y (Refused refusal.Limit 0) (Refused refusal.Limit 0)) ≡ Refused refusal.Limit 0
+    none true y = refl
+    none false true = refl
+    none false false = refl
+
+    go : (a b c : Bool) → limited row pool (Refused refusal.Limit 0) (by a b c) ≡ by a b c
+    go true b c = row-limited _ row pool
+    go false true c = row-limited _ row pool
+    go false false true = row-limited _ row pool
+    go false false false = none (ltb 16384 (length row)) (ltb 65536 (length pool))
 
 pub wrote-limited : (s : Section) (count : ℕ) (phase : Phase) (row pool body : List ℕ)
     → limited row pool (refuse s refusal.Limit body) (wrote s count phase (writeFamily (s .family) row pool body (s .used)))
@@ -88,10 +102,10 @@ wrote-limited s count phase row pool body =
     ∙ ap (λ a. wrote s count phase (stored a (familyBytes (s .family) pool row) body (s .used))) (family-limited (s .family) row pool))
   where
     go : (x y : Bool) (a : Answer)
-        → pick x (refuse s refusal.Limit body)
-        (pick y (refuse s refusal.Limit body) (wrote s count phase (stored a (familyBytes (s .family) pool row) body (s .used))))
+        → cond x (refuse s refusal.Limit body)
+        (cond y (refuse s refusal.Limit body) (wrote s count phase (stored a (familyBytes (s .family) pool row) body (s .used))))
         ≡ wrote s count phase
-        (stored (pick x (Refused refusal.Limit 0) (pick y (Refused refusal.Limit 0) a)) (familyBytes (s .family) pool row) body (s .used))
+        (stored (cond x (Refused refusal.Limit 0) (cond y (Refused refusal.Limit 0) a)) (familyBytes (s .family) pool row) body (s .used))
     go true y a = refl
     go false true a = refl
     go false false a = refl
@@ -103,15 +117,6 @@ unfolding rowBytes
 row-size found row pool size e = let a = accepted found row pool size e in rw (a .is) (size-is-length (a .sized))
 
 -- a lift has its bytes in another order than its words, and as many
-options-length : (pool : List ℕ) (n : ℕ) (os : List ℕ)
-    → length (strings pool (repeated n (field.Choice ∷ field.Nothing ∷ []) ++ field.Nothing ∷ []) os)
-    ≡ length (elements n 2 (λ vs. canonopt (word vs 0) (word vs 1)) os)
-unfolding wide bytes
-options-length pool n os =
-    ap length
-    (group-bytes pool field.Choice field.Nothing field.Nothing n os ∙ append-nil _
-    ∙ same-elements n 2 _ (λ vs. canonopt (word vs 0) (word vs 1)) (λ vs. append-nil _) os)
-
 lift-length : (row pool : List ℕ) (size : ℕ) → Sized liftShape row 1 pool size → length (written liftShape pool row 1) ≡ length (lift (drop 1 row))
 unfolding strings widths rowWidth wide bytes lift
 lift-length [] pool size k = absurd (omega (arith, k .width))
@@ -120,14 +125,14 @@ lift-length (l ∷ f ∷ []) pool size k = absurd (omega (arith, k .width))
 lift-length (l ∷ f ∷ t ∷ []) pool size k = absurd (omega (arith, k .width))
 lift-length (l ∷ f ∷ t ∷ n ∷ os) pool size k =
     ap length (written-right liftShape pool (l ∷ f ∷ t ∷ n ∷ os) 1 (k .end) size (k .judges))
-    ∙ simp length-append (omega (arith, options-length pool n os))
+    ∙ simp length-append (omega (arith, ap length (only-groups pool (field.Choice ∷ field.Nothing ∷ []) _ (choice-element pool) n os)))
 
 canonical-size : (row pool : List ℕ) (size : ℕ) → measuredCanonical row pool ≡ Size size → size ≡ length (canonicalBytes pool row)
 unfolding measuredCanonical canonicalBytes
 canonical-size row pool size e = go (eqb (word row 0) 256) e
   where
-    go : (b : Bool) → measuredRow (pick b (Is liftShape) (shapeIn table (word row 0))) row pool ≡ Size size
-        → size ≡ length (pick b (lift (drop 1 row)) (rowBytes (shapeIn table (word row 0)) pool row))
+    go : (b : Bool) → measuredRow (cond b (Is liftShape) (shapeIn table (word row 0))) row pool ≡ Size size
+        → size ≡ length (cond b (lift (drop 1 row)) (rowBytes (shapeIn table (word row 0)) pool row))
     go true e =
         let a = accepted (Is liftShape) row pool size e in
         let same : a .shape ≡ liftShape = cc in
@@ -138,12 +143,15 @@ canonical-size row pool size e = go (eqb (word row 0) 256) e
 pub family-size : (family : ℕ) (row pool : List ℕ) (size : ℕ) → measuredFamily family row pool ≡ Size size
     → size ≡ length (familyBytes family pool row)
 unfolding measuredFamily familyBytes measuredType measuredImport
-family-size family row pool size e = go (eqb family 7) (eqb family 8) e
+family-size family row pool size e = go (eqb family 7) (eqb family 8) (eqb family 10) e
   where
-    go : (a b : Bool) → pick a (measuredType row pool) (pick b (measuredCanonical row pool) (measuredImport row pool)) ≡ Size size
+    go : (a b c : Bool)
+        → cond a (measuredType row pool)
+        (cond b (measuredCanonical row pool) (cond c (measuredImport row pool) (Refused refusal.Limit 0))) ≡ Size size
         → size
-        ≡ length (pick a (rowBytes (types.shapeOf (word row 0)) pool row)
-        (pick b (canonicalBytes pool row) (rowBytes (imports.shapeOf (word row 0)) pool row)))
-    go true b e = row-size (types.shapeOf (word row 0)) row pool size e
-    go false true e = canonical-size row pool size e
-    go false false e = row-size (imports.shapeOf (word row 0)) row pool size e
+        ≡ length (cond a (rowBytes (types.shapeOf (word row 0)) pool row)
+        (cond b (canonicalBytes pool row) (rowBytes (imports.shapeOf (word row 0)) pool row)))
+    go true b c e = row-size (types.shapeOf (word row 0)) row pool size e
+    go false true c e = canonical-size row pool size e
+    go false false true e = row-size (imports.shapeOf (word row 0)) row pool size e
+    go false false false e = impossible cc

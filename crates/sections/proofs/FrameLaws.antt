@@ -19,8 +19,9 @@ use Rattle.numbers.proofs.BytesLaws.{store-either, size-value, room-value}
 use Rattle.numbers.proofs.LebLaws.{size-bounds}
 use Rattle.fields.specs.declared.Answer.the-variants.{Size}
 use Rattle.fields.specs.declared.Refusal.the-variants as refusal
-use Rattle.fields.specs.Write.{left, refuse, stored}
-use Rattle.fields.proofs.WroteLaws.{then, of-store, of-stores, room-first, room-then}
+use Rattle.fields.specs.Answers.{left, refuse}
+use Rattle.writing.specs.Write.{stored}
+use Rattle.writing.proofs.WroteLaws.{then, of-store, of-stores, room-first, room-then}
 use Rattle.sections.specs.Finish.{framed, framing}
 
 -- the size and the count have at most 5 bytes each

@@ -2,20 +2,21 @@
 use Prim.Native.Nat.{ℕ, _+_, _^_, _≤_, _<_}
 use native.Mathlib.Omega.{arith}
 use mathlib.Core.Path.{_≡_, refl, sym, ap, subst, _∙_}
-use mathlib.Core.Bool.{Bool, true, false, not}
-use mathlib.Core.List.{List}
+use mathlib.Core.Bool.{Bool, true, false, not, cond}
+use mathlib.Core.List.{List, []}
 use borrow.Author.Tests.{ltb-true, ltb-false, leb-true, eqb-true, not-true, not-false}
 use lib.Dec.{eqb, ltb, leb}
 use lib.ListN.{length}
 use lib.Seq.{sets}
 use Rattle.fields.specs.declared.Answer.{Answer}
 use Rattle.fields.specs.declared.Answer.the-variants.{Size, Refused}
+use Rattle.fields.specs.declared.Refusal.{Refusal}
 use Rattle.fields.specs.declared.Refusal.the-variants as refusal
 use Rattle.fields.specs.declared.Shape.{Shape}
-use Rattle.fields.specs.Binary.{pick}
-use Rattle.fields.specs.Row.{writeRow}
-use Rattle.fields.specs.Write.{Left, left, stored, writeShape}
-use Rattle.fields.specs.Write as write
+use Rattle.writing.specs.Row.{writeRow}
+use Rattle.fields.specs.Answers.{Left, left}
+use Rattle.writing.specs.Write.{stored, writeShape}
+use Rattle.fields.specs.Answers as answers
 use Rattle.types.specs.Write.{writeType}
 use Rattle.imports.specs.Write.{writeImport}
 use Rattle.canonicals.specs.Write.{writeCanonical}
@@ -24,7 +25,9 @@ use Rattle.sections.specs.declared.Phase.the-variants.{Closed, Opened, A
 use Rattle.sections.specs.declared.Section.{Section}
 use Rattle.sections.specs.declared.Turned.{Turned}
 use Rattle.sections.specs.Section.{knownFamily, opened, holdsAt, holds, sounds, writeFamily}
-use Rattle.sections.specs.Steps.{turned, taken, Fits, wrote}
+use Rattle.sections.specs.Steps.{turned, taken, wrote}
+use Rattle.sections.specs.inside.Bounded.{Bounded}
+use Rattle.numbers.proofs.Impossible.{impossible}
 
 -- ---- tests
 
@@ -38,13 +41,13 @@ passed {t} e n = sym e ∙ not-false t n
 -- ---- a sound state
 
 -- a test that must be false, and one that must hold
-not-first : (x y : Bool) → pick x false y ≡ true → (x ≡ false) × (y ≡ true)
-not-first true y e = let z : _≡_ {A = ℕ} 0 1 = cc in absurd (omega arith)
+not-first : (x y : Bool) → cond x false y ≡ true → (x ≡ false) × (y ≡ true)
+not-first true y e = impossible cc
 not-first false y e = (refl, e)
 
-both : (x y : Bool) → pick x y false ≡ true → (x ≡ true) × (y ≡ true)
+both : (x y : Bool) → cond x y false ≡ true → (x ≡ true) × (y ≡ true)
 both true y e = (refl, e)
-both false y e = let z : _≡_ {A = ℕ} 0 1 = cc in absurd (omega arith)
+both false y e = impossible cc
 
 -- its used part is no longer than the body
 pub used-le : (s : Section) (n : ℕ) → sounds s n ≡ true → s .used ≤ n
@@ -59,7 +62,7 @@ phase-holds s n e = not-first (ltb n (s .used)) (holds (s .phase) s) e .1
 held : (s : Section) (start : ℕ) → holdsAt s start ≡ true → (s .family ≡ 7) × (0 < s .count)
 unfolding holdsAt
 held s start e =
-    let f = both (eqb (s .family) 7) (pick (leb start (s .used)) (ltb 0 (s .count)) false) e in
+    let f = both (eqb (s .family) 7) (cond (leb start (s .used)) (ltb 0 (s .count)) false) e in
     let c = both (leb start (s .used)) (ltb 0 (s .count)) (f .1) in
     (eqb-true _ _ (f .0), ltb-true _ _ (c .1))
 
@@ -67,7 +70,7 @@ pub count-positive : (s : Section) (n : ℕ) → sounds s n ≡ true → opened 
 count-positive s n e o = go (s .phase) (phase-holds s n e) o
   where
     go : (p : Phase) → holds p s ≡ true → opened p ≡ true → 0 < s .count
-    go Closed h o = let z : _≡_ {A = ℕ} 0 1 = cc in absurd (omega arith)
+    go Closed h o = impossible cc
     go (Opened start) h o = held s start h .1
     go (Asynced start) h o = held s start h .1
     go (Parametered start) h o = held s start h .1
@@ -77,7 +80,7 @@ known-small : (family : ℕ) → knownFamily family ≡ true → family < 256
 unfolding knownFamily
 known-small family e = go (eqb family 7) refl (eqb family 8) refl e
   where
-    go : (a : Bool) → eqb family 7 ≡ a → (b : Bool) → eqb family 8 ≡ b → pick a true (pick b true (eqb family 10)) ≡ true
+    go : (a : Bool) → eqb family 7 ≡ a → (b : Bool) → eqb family 8 ≡ b → cond a true (cond b true (eqb family 10)) ≡ true
         → family < 256
     go true ea b eb e = omega (arith, eqb-true family 7 ea)
     go false ea true eb e = omega (arith, eqb-true family 8 eb)
@@ -95,19 +98,23 @@ family-small s n e = go (s .phase) (phase-holds s n e)
 -- ---- what a writer leaves
 
 -- what was stored behind the used part lies in the buffer, so the grown part still has a length
-stored-fits : (s : Section) (a : Answer) (bs out : List ℕ) → length out < 2 ^ 64 → Fits s (stored a bs out (s .used) .answer)
+stored-fits : (s : Section) (a : Answer) (bs out : List ℕ) → length out < 2 ^ 64 → Bounded s (stored a bs out (s .used) .answer)
 unfolding stored
 stored-fits s (Refused w n) bs out h = tt
 stored-fits s (Size m) bs out h = go (leb (s .used + m) (length out)) refl
   where
     go : (b : Bool) → leb (s .used + m) (length out) ≡ b
-        → Fits s (pick b (left (Size m) (sets out (s .used) bs)) (write.refuse refusal.Room m out) .answer)
+        → Bounded s (cond b (left (Size m) (sets out (s .used) bs)) (answers.refuse refusal.Room m out) .answer)
     go true e = omega (arith, leb-true (s .used + m) (length out) e)
     go false e = tt
 
 -- what the writers leave was stored behind the used part
 pub data Writer (s : Section) (out : List ℕ) : Left → Type 0 where
   storing : (a : Answer) (bs : List ℕ) → Writer s out (stored a bs out (s .used))
+
+refusing : (s : Section) (out : List ℕ) (w : Refusal) (n : ℕ) → Writer s out (answers.refuse w n out)
+unfolding stored
+refusing s out w n = storing (Refused w n) []
 
 pub shape-writer : (s : Section) (shape : Shape) (row : List ℕ) (start : ℕ) (pool out : List ℕ)
     → Writer s out (writeShape shape row start pool out (s .used))
@@ -116,19 +123,21 @@ shape-writer s shape row start pool out = storing _ _
 
 pub family-writer : (s : Section) (row pool out : List ℕ) → Writer s out (writeFamily (s .family) row pool out (s .used))
 unfolding writeFamily writeType writeCanonical writeImport writeRow
-family-writer s row pool out = go (eqb (s .family) 7) (eqb (s .family) 8)
+family-writer s row pool out = go (eqb (s .family) 7) (eqb (s .family) 8) (eqb (s .family) 10)
   where
-    go : (a b : Bool)
+    go : (a b c : Bool)
         → Writer s out
-        (pick a (writeType row pool out (s .used))
-        (pick b (writeCanonical row pool out (s .used)) (writeImport row pool out (s .used))))
-    go true b = storing _ _
-    go false true = storing _ _
-    go false false = storing _ _
+        (cond a (writeType row pool out (s .used))
+        (cond b (writeCanonical row pool out (s .used))
+        (cond c (writeImport row pool out (s .used)) (answers.refuse refusal.Limit 0 out))))
+    go true b c = storing _ _
+    go false true c = storing _ _
+    go false false true = storing _ _
+    go false false false = refusing s out refusal.Limit 0
 
 pub written-fits : {s : Section} {out b : List ℕ} {l : Left} {r : Answer} → Writer s out l → left r b ≡ l → length out < 2 ^ 64
-    → Fits s r
-written-fits {s} {out} (storing a bs) e h = subst (λ (x : Left). Fits s (x .answer)) (sym e) (stored-fits s a bs out h)
+    → Bounded s r
+written-fits {s} {out} (storing a bs) e h = subst (λ (x : Left). Bounded s (x .answer)) (sym e) (stored-fits s a bs out h)
 
 -- the step that takes what a writer left
 pub as-wrote : (s : Section) (count : ℕ) (phase : Phase) {r : Answer} {b : List ℕ} {l : Left} {t : Turned}

@@ -6,19 +6,22 @@ use native.Mathlib.Omega.{arith}
 use mathlib.Core.Path.{_≡_, refl, sym, ap, _∙_}
 use mathlib.Core.List.{List, [], _∷_, _++_, append-nil}
 use lib.ListN.{length, drop}
-use lib.Seq.{getD-drop, drop-append-seam}
+use lib.Seq.{drop-append-seam}
 use Rattle.numbers.specs.Leb.{unsigned}
 use Rattle.fields.specs.declared.Answer.the-variants.{Size}
 use Rattle.fields.specs.declared.Field.{Field}
 use Rattle.fields.specs.declared.Field.the-variants as field
-use Rattle.fields.specs.Binary.{word, bytes, functype, resultlist}
-use Rattle.fields.specs.Judge.{wide, flaw, judge}
+use Rattle.fields.specs.Words.{word, wide}
+use Rattle.writing.specs.Binary.{bytes, functype, resultlist}
+use Rattle.writing.specs.Judge.{flaw, judge}
 use Rattle.fields.specs.Shape.{seq, widths, rowWidth}
 use Rattle.fields.specs.Table.{productionIn, elements, vec}
 use Rattle.fields.specs.Walk.{outs}
-use Rattle.fields.specs.Write.{written}
-use Rattle.fields.proofs.AnswerLaws.{Sized, measured-sized}
-use Rattle.fields.proofs.TableLaws.{strings, written-right, group-bytes, same-elements}
+use Rattle.writing.specs.Write.{written}
+use Rattle.writing.proofs.AnswerLaws.{Sized, measured-sized}
+use Rattle.writing.proofs.GroupLaws.{labelled-element}
+use Rattle.writing.proofs.RowLaws.{only-groups}
+use Rattle.writing.proofs.TableLaws.{strings, written-right}
 use Rattle.types.specs.Table.{labelvaltype, table}
 use Rattle.types.specs.Write.{measuredType}
 use Rattle.types.proofs.Rows.{type-row}
@@ -26,7 +29,7 @@ use Rattle.sections.specs.declared.Phase.{Phase}
 use Rattle.sections.specs.declared.Phase.the-variants.{Closed}
 use Rattle.sections.specs.declared.Section.{Section}
 use Rattle.sections.specs.Steps.{paramsIn, paramsFrom, rowing, opening, asyncing, paraming}
-use Rattle.sections.specs.Runs.{Row, Open, Async, Params, Result, Stand, stand, runs, Accepted, AllAccepted}
+use Rattle.sections.specs.Runs.{Row, Open, Async, Params, Result, stand, runs, Accepted, AllAccepted, AsRow}
 use Rattle.sections.proofs.TurnLaws.{Grows, accepted-size, accepted-grows, grows-then, asyncShape, paramsShape, resultShape, row-turns, open-turns, open-family, async-turns, params-turns, result-turns}
 
 -- ---- the bytes of each step
@@ -52,13 +55,9 @@ module _ (lead : Field) (no-word : wide lead ≡ 0) (pool words : List ℕ) (siz
   unfolding strings widths wide bytes
   params-bytes =
       written-right (paramsShape lead) pool words 0 (k .end) size (k .judges)
-      ∙ rw (counted-at, append-nil (bytes pool lead words))
-      (ap (λ l. bytes pool lead words ++ (unsigned n ++ l))
-      (group-bytes pool field.Name field.Value field.Nothing n (drop 1 words) ∙ append-nil _
-      ∙ same-elements n 4 _ (labelvaltype pool) (λ vs. simp getD-drop) (drop 1 words)))
-    where
-      n : ℕ
-      n = word words 0
+      ∙ rw no-word
+      (ap (λ l. bytes pool lead words ++ (unsigned (word words 0) ++ l))
+      (only-groups pool (field.Name ∷ field.Value ∷ []) (labelvaltype pool) (labelled-element pool) (word words 0) (drop 1 words)))
 
 -- ---- the bytes of the row
 
@@ -96,13 +95,6 @@ functionRow a words tag x = 15 ∷ a ∷ (words ++ tag ∷ x ∷ [])
 -- its bytes behind a first byte
 abbrev functionBytes : ℕ → List ℕ → List ℕ → ℕ → ℕ → List ℕ
 functionBytes first words pool tag x = first ∷ (vec 4 (labelvaltype pool) words ++ resultlist tag x)
-
--- steps that leave what a row leaves, both from s on: an entry more of a section of types, which is closed
-pub record AsRow (s : Section) (steps row : Stand) : Type 0 where
-  pub same : steps ≡ row
-  pub types : row .section .family ≡ 7
-  pub closed : row .section .phase ≡ Closed
-  pub counted : row .section .count ≡ s .count + 1
 
 both-grow : {s t u : Section} {body new end bs : List ℕ} → s .family ≡ 7 → Grows s body bs (s .count + 1) Closed t new
     → Grows s body bs (s .count + 1) Closed u end → AsRow s (stand t new) (stand u end)
@@ -170,11 +162,11 @@ module _ (s : Section) (words pool : List ℕ) (tag x : ℕ) (body : List ℕ) w
       both-grow f (steps .1) (row-grows a f (steps .0) (row .0))
 
   -- and in three, where it is not async
-  pub plain-steps-are-row : AllAccepted (Open ∷ Params words pool ∷ Result tag x ∷ []) s body
+  pub steps-without-async-are-row : AllAccepted (Open ∷ Params words pool ∷ Result tag x ∷ []) s body
       → AllAccepted (Row (functionRow 0 words tag x) pool ∷ []) s body
       → AsRow s (runs (Open ∷ Params words pool ∷ Result tag x ∷ []) s body) (runs (Row (functionRow 0 words tag x) pool ∷ []) s body)
   unfolding wide bytes functype
-  plain-steps-are-row k row =
+  steps-without-async-are-row k row =
       let t = opening s body in
       let f = open-family s body (k .0) in
       let g = accepted-grows (open-turns s body) (k .0) in

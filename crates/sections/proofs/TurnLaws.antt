@@ -2,7 +2,7 @@
 use Prim.Native.Nat.{ℕ, _+_, _≤_}
 use native.Mathlib.Omega.{arith}
 use mathlib.Core.Path.{_≡_, refl, sym, ap, _∙_, subst}
-use mathlib.Core.Bool.{Bool, true, false}
+use mathlib.Core.Bool.{Bool, true, false, cond}
 use mathlib.Core.List.{List, [], _∷_, _++_}
 use borrow.Author.Tests.{ltb-false, leb-true, eqb-true}
 use lib.Dec.{eqb, ltb, leb}
@@ -16,11 +16,11 @@ use Rattle.fields.specs.declared.Field.the-variants as field
 use Rattle.fields.specs.declared.Refusal.{Refusal}
 use Rattle.fields.specs.declared.Refusal.the-variants as refusal
 use Rattle.fields.specs.declared.Shape.{Shape}
-use Rattle.fields.specs.Binary.{pick}
 use Rattle.fields.specs.Table.{twoOf, manyOf}
-use Rattle.fields.specs.Write.{left, written, measured, stored, writeShape}
-use Rattle.fields.proofs.AnswerLaws.{measured-sized}
-use Rattle.fields.proofs.WholeLaws.{size-is-length}
+use Rattle.fields.specs.Answers.{left}
+use Rattle.writing.specs.Write.{written, measured, stored, writeShape}
+use Rattle.writing.proofs.AnswerLaws.{measured-sized}
+use Rattle.writing.proofs.WholeLaws.{size-is-length}
 use Rattle.sections.specs.declared.Phase.{Phase}
 use Rattle.sections.specs.declared.Phase.the-variants.{Closed, Opened, Asynced, Parametered}
 use Rattle.sections.specs.declared.Section.{Section}
@@ -82,26 +82,26 @@ abbrev pub resultShape : Shape
 resultShape = twoOf field.Nothing field.Nothing field.Result field.Nothing
 
 -- what holds both ways holds of a test
-pub either : (P : Turn → Type 0) (b : Bool) (x y : Turn) → P x → P y → P (pick b x y)
+pub either : (P : Turn → Type 0) (b : Bool) (x y : Turn) → P x → P y → P (cond b x y)
 either P true x y h k = h
 either P false x y h k = k
 
 module _ {s : Section} {body : List ℕ} {r : Answer} {bs : List ℕ} {count : ℕ} {phase : Phase} where
   -- a test that refuses, and one that lets through
-  unless : (b : Bool) (w : Refusal) {t : Turn} → Turns s body r bs count phase t → Turns s body r bs count phase (pick b (refuse s w body) t)
+  unless : (b : Bool) (w : Refusal) {t : Turn} → Turns s body r bs count phase t → Turns s body r bs count phase (cond b (refuse s w body) t)
   unless b w {t} k = either (Turns s body r bs count phase) b (refuse s w body) t (refuses w 0) k
 
-  when : (b : Bool) (w : Refusal) {t : Turn} → Turns s body r bs count phase t → Turns s body r bs count phase (pick b t (refuse s w body))
+  when : (b : Bool) (w : Refusal) {t : Turn} → Turns s body r bs count phase t → Turns s body r bs count phase (cond b t (refuse s w body))
   when b w {t} k = either (Turns s body r bs count phase) b t (refuse s w body) k (refuses w 0)
 
   -- the state can stand over the body, so its used part is no longer
   when-sound : {t : Turn} → (s .used ≤ length body → Turns s body r bs count phase t)
-      → Turns s body r bs count phase (pick (sounds s (length body)) t (refuse s refusal.Limit body))
+      → Turns s body r bs count phase (cond (sounds s (length body)) t (refuse s refusal.Limit body))
   unfolding sounds
   when-sound {t} k = go (ltb (length body) (s .used)) refl
     where
       go : (b : Bool) → ltb (length body) (s .used) ≡ b
-          → Turns s body r bs count phase (pick (pick b false (holds (s .phase) s)) t (refuse s refusal.Limit body))
+          → Turns s body r bs count phase (cond (cond b false (holds (s .phase) s)) t (refuse s refusal.Limit body))
       go true e = refuses refusal.Limit 0
       go false e = when (holds (s .phase) s) refusal.Limit (k (ltb-false _ _ e))
 
@@ -111,7 +111,7 @@ unfolding stored
 wrote-turns s body (Size m) bs count phase same = go (leb (s .used + m) (length body)) refl
   where
     go : (b : Bool) → leb (s .used + m) (length body) ≡ b
-        → Turns s body (Size m) bs count phase (wrote s count phase (pick b (left (Size m) (sets body (s .used) bs)) (left (Refused refusal.Room m) body)))
+        → Turns s body (Size m) bs count phase (wrote s count phase (cond b (left (Size m) (sets body (s .used) bs)) (left (Refused refusal.Room m) body)))
     go true e =
         let n : length bs ≡ m = sym (same m refl) in
         let h : s .used + m ≤ length body = leb-true _ _ e in
@@ -158,10 +158,10 @@ module _ (s : Section) (body : List ℕ) where
       go (sounds s (length body)) (opened (s .phase)) (eqb (s .count) 4294967295) (eqb (s .family) 7) refl a
     where
       go : (b c d e : Bool) → eqb (s .family) 7 ≡ e
-          → Accepted (pick b
-          (pick c (refuse s refusal.Order body)
-          (pick d (refuse s refusal.Count body)
-          (pick e (turned (taken s (Size 0) (s .count + 1) (Opened (s .used))) body) (refuse s refusal.Kind body))))
+          → Accepted (cond b
+          (cond c (refuse s refusal.Order body)
+          (cond d (refuse s refusal.Count body)
+          (cond e (turned (taken s (Size 0) (s .count + 1) (Opened (s .used))) body) (refuse s refusal.Kind body))))
           (refuse s refusal.Limit body))
           → s .family ≡ 7
       go true false false true p a = eqb-true _ _ p

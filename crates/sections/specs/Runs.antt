@@ -1,10 +1,16 @@
 -- Steps one after the other from a section over its body on: what they come to, and whether each of them is accepted.
-use Prim.Native.Nat.{ℕ}
-use mathlib.Core.List.{List, [], _∷_}
+use Prim.Native.Nat.{ℕ, _+_, _≤_, _<_}
+use mathlib.Core.List.{List, [], _∷_, _++_}
 use Rattle.fields.specs.declared.Answer.{Answer}
 use Rattle.fields.specs.declared.Answer.the-variants.{Size, Refused}
 use Rattle.sections.specs.declared.Section.{Section}
 use Rattle.sections.specs.Steps.{Turn, rowing, opening, asyncing, paraming, resulting, abandoning}
+use mathlib.Core.Logic.{_⊎_}
+use mathlib.Core.Path.{_≡_}
+use lib.ListN.{length, getD, take}
+use lib.Seq.{sets}
+use Rattle.sections.specs.declared.Phase.the-variants.{Closed}
+use Rattle.sections.specs.Section.{familyBytes}
 
 -- a step that is asked for: its words, and its pool where it has one
 pub data Step : Type 0 where
@@ -56,3 +62,32 @@ pub record Entry : Type 0 where
 abbrev pub rows : List Entry → List Step
 rows [] = []
 rows (e ∷ es) = Row (e .row) (e .pool) ∷ rows es
+
+-- where n bytes are counted, the body is as it was before the used part and from n bytes behind it on; where none, all is as it was
+abbrev pub KeptBy : Section → List ℕ → Answer → Section → List ℕ → Type 0
+KeptBy s body (Size n) t new = (i : ℕ) → (i < s .used) ⊎ (s .used + n ≤ i) → getD new i 0 ≡ getD body i 0
+KeptBy s body (Refused w n) t new = (t ≡ s) × (new ≡ body)
+
+abbrev pub Kept : Section → List ℕ → Turn → Type 0
+Kept s body t = KeptBy s body (t .gave .answer) (t .gave .section) (t .body)
+
+-- their bytes in order
+abbrev pub allBytes : ℕ → List Entry → List ℕ
+allBytes family [] = []
+allBytes family (e ∷ es) = familyBytes family (e .pool) (e .row) ++ allBytes family es
+
+-- the section and the body at the end, from a fresh section over `body` on
+pub record Begun (family : ℕ) (es : List Entry) (body : List ℕ) (end : Stand) : Type 0 where
+  pub family-is : end .section .family ≡ family
+  pub used-is : end .section .used ≡ length (allBytes family es)
+  pub count-is : end .section .count ≡ length es
+  pub closed : end .section .phase ≡ Closed
+  pub content : end .body ≡ sets body 0 (allBytes family es)
+  pub used-part : take (end .section .used) (end .body) ≡ allBytes family es
+
+-- steps that leave what a row leaves, both from s on: an entry more of a section of types, which is closed
+pub record AsRow (s : Section) (steps row : Stand) : Type 0 where
+  pub same : steps ≡ row
+  pub types : row .section .family ≡ 7
+  pub closed : row .section .phase ≡ Closed
+  pub counted : row .section .count ≡ s .count + 1

@@ -1,6 +1,6 @@
 -- What each step answers, and the state and the body it leaves: LIMIT, ORDER, COUNT, KIND, then what the fields say.
-use Prim.Native.Nat.{ℕ, _+_, _-_, _≤_, _^_, _<_}
-use mathlib.Core.Bool.{Bool, true, false}
+use Prim.Native.Nat.{ℕ, _+_, _-_}
+use mathlib.Core.Bool.{cond}
 use mathlib.Core.List.{List, [], _∷_}
 use lib.Dec.{eqb, ltb}
 use lib.ListN.{length}
@@ -10,14 +10,15 @@ use Rattle.fields.specs.declared.Field.{Field}
 use Rattle.fields.specs.declared.Field.the-variants as field
 use Rattle.fields.specs.declared.Refusal.{Refusal}
 use Rattle.fields.specs.declared.Refusal.the-variants as refusal
-use Rattle.fields.specs.Binary.{pick}
 use Rattle.fields.specs.Table.{twoOf, manyOf}
-use Rattle.fields.specs.Write.{Left, writeShape}
+use Rattle.fields.specs.Answers.{Left}
+use Rattle.writing.specs.Write.{writeShape}
 use Rattle.sections.specs.declared.Phase.{Phase}
 use Rattle.sections.specs.declared.Phase.the-variants.{Closed, Opened, Asynced, Parametered}
 use Rattle.sections.specs.declared.Section.{Section}
 use Rattle.sections.specs.declared.Turned.{Turned}
 use Rattle.sections.specs.Section.{opened, sounds, writeFamily}
+use Rattle.fields.specs.Limits.{rowWords, poolBytes}
 
 -- what a step leaves: what it hands back, and the body
 pub record Turn : Type 0 where
@@ -43,11 +44,6 @@ taken s (Size n) count phase =
     gives (record { family = s .family; used = s .used + n; count = count; phase = phase }) (Size n)
 taken s (Refused w n) count phase = refused s w n
 
--- the grown part still has a length
-abbrev pub Fits : Section → Answer → Type 0
-Fits s (Size n) = s .used + n < 2 ^ 64
-Fits s (Refused w n) = Unit {0}
-
 -- the answer and the buffer that a writer leaves, as a step
 abbrev pub wrote : Section → ℕ → Phase → Left → Turn
 wrote s count phase l = turned (taken s (l .answer) count phase) (l .buffer)
@@ -55,21 +51,21 @@ wrote s count phase l = turned (taken s (l .answer) count phase) (l .buffer)
 -- a row adds its bytes and 1
 unfoldable pub rowing : Section → List ℕ → List ℕ → List ℕ → Turn
 rowing s row pool body =
-    pick (sounds s (length body))
-    (pick (ltb 16384 (length row)) (refuse s refusal.Limit body)
-    (pick (ltb 65536 (length pool)) (refuse s refusal.Limit body)
-    (pick (opened (s .phase)) (refuse s refusal.Order body)
-    (pick (eqb (s .count) 4294967295) (refuse s refusal.Count body)
+    cond (sounds s (length body))
+    (cond (ltb rowWords (length row)) (refuse s refusal.Limit body)
+    (cond (ltb poolBytes (length pool)) (refuse s refusal.Limit body)
+    (cond (opened (s .phase)) (refuse s refusal.Order body)
+    (cond (eqb (s .count) 4294967295) (refuse s refusal.Count body)
     (wrote s (s .count + 1) Closed (writeFamily (s .family) row pool body (s .used)))))))
     (refuse s refusal.Limit body)
 
 -- opening adds 1 to the count
 unfoldable pub opening : Section → List ℕ → Turn
 opening s body =
-    pick (sounds s (length body))
-    (pick (opened (s .phase)) (refuse s refusal.Order body)
-    (pick (eqb (s .count) 4294967295) (refuse s refusal.Count body)
-    (pick (eqb (s .family) 7) (turned (taken s (Size 0) (s .count + 1) (Opened (s .used))) body) (refuse s refusal.Kind body))))
+    cond (sounds s (length body))
+    (cond (opened (s .phase)) (refuse s refusal.Order body)
+    (cond (eqb (s .count) 4294967295) (refuse s refusal.Count body)
+    (cond (eqb (s .family) 7) (turned (taken s (Size 0) (s .count + 1) (Opened (s .used))) body) (refuse s refusal.Kind body))))
     (refuse s refusal.Limit body)
 
 -- async: the byte 40, or 43
@@ -81,7 +77,7 @@ asyncIn (Asynced start) s a body = refuse s refusal.Order body
 asyncIn (Parametered start) s a body = refuse s refusal.Order body
 
 unfoldable pub asyncing : Section → ℕ → List ℕ → Turn
-asyncing s a body = pick (sounds s (length body)) (asyncIn (s .phase) s a body) (refuse s refusal.Limit body)
+asyncing s a body = cond (sounds s (length body)) (asyncIn (s .phase) s a body) (refuse s refusal.Limit body)
 
 -- params: n and n of (N,V), and the byte 40 first where async was not given
 abbrev pub paramsFrom : Field → ℕ → Section → List ℕ → List ℕ → List ℕ → Turn
@@ -97,9 +93,9 @@ paramsIn (Parametered start) s words pool body = refuse s refusal.Order body
 
 unfoldable pub paraming : Section → List ℕ → List ℕ → List ℕ → Turn
 paraming s words pool body =
-    pick (sounds s (length body))
-    (pick (ltb 16384 (length words)) (refuse s refusal.Limit body)
-    (pick (ltb 65536 (length pool)) (refuse s refusal.Limit body) (paramsIn (s .phase) s words pool body)))
+    cond (sounds s (length body))
+    (cond (ltb rowWords (length words)) (refuse s refusal.Limit body)
+    (cond (ltb poolBytes (length pool)) (refuse s refusal.Limit body) (paramsIn (s .phase) s words pool body)))
     (refuse s refusal.Limit body)
 
 -- result: an O, which closes the entry
@@ -111,7 +107,7 @@ resultIn (Opened start) s tag x body = refuse s refusal.Order body
 resultIn (Asynced start) s tag x body = refuse s refusal.Order body
 
 unfoldable pub resulting : Section → ℕ → ℕ → List ℕ → Turn
-resulting s tag x body = pick (sounds s (length body)) (resultIn (s .phase) s tag x body) (refuse s refusal.Limit body)
+resulting s tag x body = cond (sounds s (length body)) (resultIn (s .phase) s tag x body) (refuse s refusal.Limit body)
 
 -- abandon: used and count from before the opening
 abbrev pub withdrawn : Section → ℕ → Turned
@@ -124,4 +120,4 @@ abandonIn (Asynced start) s body = turned (withdrawn s start) body
 abandonIn (Parametered start) s body = turned (withdrawn s start) body
 
 unfoldable pub abandoning : Section → List ℕ → Turn
-abandoning s body = pick (sounds s (length body)) (abandonIn (s .phase) s body) (refuse s refusal.Limit body)
+abandoning s body = cond (sounds s (length body)) (abandonIn (s .phase) s body) (refuse s refusal.Limit body)

@@ -1,14 +1,17 @@
 // A section that is being put together: a state by value over a lent body. Each step takes the state and hands the new one back with
 // its answer; a refusal changes neither state nor body.
 use fields::Answer;
+use fields::POOL_BYTES;
+use fields::ROW_WORDS;
 use fields::Refusal;
 ghost use mathlib.Core.Path.{_≡_};
 ghost use Prim.Native.Nat.{_<_, _≤_};
 ghost use lib.ListN.{length};
 ghost use lib.Seq.{sets};
-ghost use Rattle.fields.specs.Write.{left};
+ghost use Rattle.fields.specs.Answers.{left};
 ghost use Rattle.sections.specs.Section.{fresh, knownFamily, holdsAt, sounds, opened, writeFamily};
-ghost use Rattle.sections.specs.Steps.{turned, refused, withdrawn, Fits, taken, rowing, opening, asyncing, paraming, resulting, abandoning};
+ghost use Rattle.sections.specs.Steps.{turned, refused, withdrawn, taken, rowing, opening, asyncing, paraming, resulting, abandoning};
+ghost use Rattle.sections.specs.inside.Bounded.{Bounded};
 ghost use Rattle.sections.specs.Finish.{framed, framing, finishing};
 
 // Where an open function stands; the number is the place in the body where it starts.
@@ -52,7 +55,7 @@ fn is_known(family: u32) -> bool
     family == 10
 }
 
-// The row written by the writer of its family.
+// The row written by the writer of its family; LIMIT where the family is no section's.
 pub fn write_by(family: u32, row: &[u32], pool: &[u8], body: &mut [u8], at: usize) -> Answer
     ensures { λ r. ⌜ left r (now (body .exit)) ≡ writeFamily family (now (row .entry)) (now (pool .entry)) (now (body .entry)) at ⌝ }
 {
@@ -62,7 +65,10 @@ pub fn write_by(family: u32, row: &[u32], pool: &[u8], body: &mut [u8], at: usiz
     if family == 8 {
         return canonicals::write(&row[0..], &pool[0..], body, at);
     }
-    imports::write(&row[0..], &pool[0..], body, at)
+    if family == 10 {
+        return imports::write(&row[0..], &pool[0..], body, at);
+    }
+    Answer::Refused(Refusal::Limit, 0)
 }
 
 impl Phase {
@@ -136,7 +142,7 @@ impl Section {
 
     // The state after an answer: grown by the bytes that were added, with that count and phase; or as it was.
     fn after(self, answer: Answer, count: u32, phase: Phase) -> Turned
-        requires { ⌜ Fits self answer ⌝ }
+        requires { ⌜ Bounded self answer ⌝ }
         ensures { λ r. ⌜ r ≡ taken self answer count phase ⌝ }
     {
         let family = self.family;
@@ -169,10 +175,10 @@ impl Section {
         if !self.sound(body.len()) {
             return self.refuse(Refusal::Limit, 0);
         }
-        if 16384 < row.len() {
+        if ROW_WORDS < row.len() {
             return self.refuse(Refusal::Limit, 0);
         }
-        if 65536 < pool.len() {
+        if POOL_BYTES < pool.len() {
             return self.refuse(Refusal::Limit, 0);
         }
         if phase.is_open() {
@@ -239,10 +245,10 @@ impl Section {
         if !self.sound(body.len()) {
             return self.refuse(Refusal::Limit, 0);
         }
-        if 16384 < words.len() {
+        if ROW_WORDS < words.len() {
             return self.refuse(Refusal::Limit, 0);
         }
-        if 65536 < pool.len() {
+        if POOL_BYTES < pool.len() {
             return self.refuse(Refusal::Limit, 0);
         }
         match phase {

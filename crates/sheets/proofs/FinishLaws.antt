@@ -2,7 +2,7 @@
 use Prim.Native.Nat.{ℕ, _+_, _-_, _/_, _≤_, _<_}
 use native.Mathlib.Omega.{arith}
 use mathlib.Core.Path.{_≡_, refl, sym, ap, _∙_}
-use mathlib.Core.Bool.{Bool, true, false}
+use mathlib.Core.Bool.{Bool, true, false, cond}
 use mathlib.Core.List.{List, [], _∷_}
 use borrow.Author.Tests.{le-leb, lt-leb, le-ltb}
 use lib.Dec.{eqb, leb}
@@ -20,24 +20,25 @@ use Rattle.fields.specs.declared.Refusal.{Refusal}
 use Rattle.fields.specs.declared.Refusal.the-variants as refusal
 use Rattle.fields.specs.declared.Leaf.{Leaf}
 use Rattle.fields.specs.declared.Leaf.the-variants.{Fine, Bad}
-use Rattle.fields.specs.Binary.{pick, word}
-use Rattle.fields.specs.Write as leaves
+use Rattle.fields.specs.Words.{word}
+use Rattle.fields.specs.Answers as leaves
 use Rattle.sections.specs.Section.{knownFamily, sounds}
 use Rattle.sections.specs.Finish.{framing, finishing}
 use Rattle.sections.proofs.FrameLaws.{frame-size, frame-fits}
-use Rattle.sheets.specs.Frame.{Rows, Are, Broken, words, poolLength, poolOf, framed}
+use Rattle.sheets.specs.Frame.{Rows, Are, Broken, words, poolLength, poolOf, framed, listed}
 use Rattle.sheets.specs.Sheet.{Left, left, familyOf, tries, joined, section, finished, written, ofRows}
-use Rattle.sheets.specs.Steps.{rest, listed, Framed, RowsAt, laid, rowsIn, SheetWords, wordsLeft, firstFamily, sectionSize, closed}
+use Rattle.sheets.specs.inside.Steps.{rest, Framed, RowsAt, laid, rowsIn, SheetWords, wordsLeft, firstFamily, sectionSize, closed}
 use Rattle.sheets.proofs.FrameLaws.{laid-out, front, frame-layout}
 use Rattle.sheets.proofs.LaidLaws.{Lies, lies, laid-count}
 use Rattle.sheets.proofs.SheetLaws.{Tried, tried-all}
+use Rattle.numbers.proofs.Impossible.{impossible}
 
 -- every kind has a section's family
 family-known : (kind : ℕ) → knownFamily (familyOf kind) ≡ true
 unfolding knownFamily familyOf
 family-known kind = go (leb 256 kind) (eqb kind 17)
   where
-    go : (a b : Bool) → let f : ℕ = pick a 8 (pick b 10 7) in pick (eqb f 7) true (pick (eqb f 8) true (eqb f 10)) ≡ true
+    go : (a b : Bool) → let f : ℕ = cond a 8 (cond b 10 7) in cond (eqb f 7) true (cond (eqb f 8) true (eqb f 10)) ≡ true
     go true b = refl
     go false true = refl
     go false false = refl
@@ -46,8 +47,8 @@ family-known kind = go (leb 256 kind) (eqb kind 17)
 rows-are : (r : Rows) (row : List ℕ) (later : List (List ℕ)) → listed r ≡ row ∷ later → (pool body out : List ℕ)
     → let family = familyOf (word row 0) in
     ofRows r pool body out ≡ written (tries family pool (length body) (listed r) 0 0) family (joined family pool (listed r)) body out
-rows-are Broken row later e pool body out = let z : _≡_ {A = ℕ} 0 1 = cc in absurd (omega arith)
-rows-are (Are []) row later e pool body out = let z : _≡_ {A = ℕ} 0 1 = cc in absurd (omega arith)
+rows-are Broken row later e pool body out = impossible cc
+rows-are (Are []) row later e pool body out = impossible cc
 rows-are (Are (x ∷ xs)) row later e pool body out =
     let same : x ≡ row = cc in
     ap

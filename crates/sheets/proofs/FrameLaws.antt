@@ -9,10 +9,11 @@ use lib.Dec.{eqb, ltb}
 use lib.ListN.{length, take, set, getD, length-append}
 use lib.Seq.{sets}
 use Rattle.numbers.proofs.BytesLaws.{sets-append, sets-back}
-use Rattle.fields.specs.Binary.{word}
-use Rattle.sheets.specs.Frame.{Rows, Are, Broken, behind, some, number, words, rowsFrom, framed, poolLength}
+use Rattle.fields.specs.Words.{word}
+use Rattle.sheets.specs.Frame.{Rows, Are, Broken, behind, some, number, words, rowsFrom, framed, poolLength, listed}
 use Rattle.sheets.specs.Sheet.{familyOf}
-use Rattle.sheets.specs.Steps.{rest, whole, listed, Framed, RowsAt, laid, firstFamily}
+use Rattle.sheets.specs.inside.Steps.{rest, whole, Framed, RowsAt, laid, firstFamily}
+use Rattle.numbers.proofs.Impossible.{impossible}
 
 -- ---- words
 
@@ -153,7 +154,7 @@ whole-one s at next e h =
 
 listed-behind : (row : List ℕ) (r : Rows) → whole r ≡ true → listed (behind row r) ≡ row ∷ listed r
 listed-behind row (Are rows) e = refl
-listed-behind row Broken e = let z : _≡_ {A = ℕ} 0 1 = cc in absurd (omega arith)
+listed-behind row Broken e = impossible cc
 
 -- the row at the front of a frame that is whole, and the frame behind it
 pub record Front (s : List ℕ) (at : ℕ) : Type 0 where
@@ -166,7 +167,7 @@ module _ {s : List ℕ} {at : ℕ} (f : Framed s at) where
   front h = go (place s at (f .inside))
     where
       never : rest s at ≡ Broken → Front s at
-      never e = let w : true ≡ false = sym (f .holds) ∙ ap whole e in let z : _≡_ {A = ℕ} 0 1 = cc in absurd (omega arith)
+      never e = let w : true ≡ false = sym (f .holds) ∙ ap whole e in impossible cc
 
       go : Place s at → Front s at
       go (done e) = absurd (omega arith)
@@ -222,12 +223,12 @@ frame-layout s at f = layout-from s (length s) at (omega arith) f
 -- ---- the whole frame
 
 some-same : (r : Rows) (row : List ℕ) (rows : List (List ℕ)) → listed r ≡ row ∷ rows → some r ≡ r
-some-same (Are []) row rows e = let z : _≡_ {A = ℕ} 0 1 = cc in absurd (omega arith)
+some-same (Are []) row rows e = impossible cc
 some-same (Are (x ∷ xs)) row rows e = refl
-some-same Broken row rows e = let z : _≡_ {A = ℕ} 0 1 = cc in absurd (omega arith)
+some-same Broken row rows e = impossible cc
 
 none-whole : (r : Rows) → whole r ≡ false → some r ≡ Broken
-none-whole (Are rows) e = let z : _≡_ {A = ℕ} 0 1 = cc in absurd (omega arith)
+none-whole (Are rows) e = impossible cc
 none-whole Broken e = refl
 
 module _ (s : List ℕ) where

@@ -6,7 +6,8 @@ use mathlib.Core.Path.{_≡_, refl, sym, ap, _∙_}
 use mathlib.Core.List.{List, [], _∷_, _++_}
 use lib.ListN.{length, getD, take, drop, length-append, length-drop, drop-of-length-le}
 use lib.Seq.{drop-cons, drop-drop, take-append-seam, drop-append-seam}
-use Rattle.sheets.specs.Steps.{laid, cut, rowsIn, InRows}
+use Rattle.sheets.specs.inside.Steps.{laid, cut, rowsIn, InRows}
+use Rattle.numbers.proofs.Impossible.{impossible}
 
 pub laid-count : (rows : List (List ℕ)) → length rows ≤ length (laid rows)
 unfolding laid
@@ -54,7 +55,7 @@ module _ (ws : List ℕ) where
   pub no-rows : {at : ℕ} {rows : List (List ℕ)} → Here at rows → length ws ≤ at → rows ≡ []
   unfolding laid
   no-rows {at} {rows = []} e h = refl
-  no-rows {at} {rows = row ∷ rows} e h = let none = drop-of-length-le ws h in let z : _≡_ {A = ℕ} 0 1 = cc in absurd (omega arith)
+  no-rows {at} {rows = row ∷ rows} e h = let none = drop-of-length-le ws h in impossible cc
 
   pub turn : {at : ℕ} {rows : List (List ℕ)} → Here at rows → at < length ws → Turn at rows
   unfolding laid

@@ -2,7 +2,7 @@
 use Prim.Native.Nat.{ℕ, _+_, _≤_, _<_}
 use native.Mathlib.Omega.{arith}
 use mathlib.Core.Path.{_≡_, refl, sym, ap, _∙_}
-use mathlib.Core.Bool.{Bool, true, false}
+use mathlib.Core.Bool.{Bool, true, false, cond}
 use mathlib.Core.List.{List}
 use borrow.Author.Tests.{leb-true}
 use lib.Dec.{leb}
@@ -14,16 +14,17 @@ use Rattle.fields.specs.declared.Refusal.{Refusal}
 use Rattle.fields.specs.declared.Refusal.the-variants as refusal
 use Rattle.fields.specs.declared.Leaf.{Leaf}
 use Rattle.fields.specs.declared.Leaf.the-variants.{Bad}
-use Rattle.fields.specs.Binary.{pick}
-use Rattle.fields.specs.Write as leaves
-use Rattle.fields.specs.Write.{stored, numberOfRefusal}
-use Rattle.fields.proofs.WroteLaws.{same-size}
+use Rattle.fields.specs.Answers as leaves
+use Rattle.writing.specs.Write.{stored}
+use Rattle.fields.specs.Answers.{numberOfRefusal}
+use Rattle.writing.proofs.WroteLaws.{same-size}
 use Rattle.sections.specs.Section.{writeFamily, measuredFamily, familyBytes}
 use Rattle.sections.proofs.FamilyLaws.{family-stored}
 use Rattle.sheets.specs.Sheet.{tries, joined}
-use Rattle.sheets.specs.Steps.{rowsIn, InRows, Fits, AllMade}
+use Rattle.sheets.specs.inside.Steps.{rowsIn, InRows, Fits, AllMade}
 use Rattle.sheets.proofs.LaidLaws.{Here, endOf, rowAt, no-rows, turn}
 use Rattle.sheets.proofs.SheetLaws.{Trying, try-start, try-end, try-refused, try-cramped, try-next, row-wrote, put-next}
+use Rattle.numbers.proofs.Impossible.{impossible}
 
 -- why a row is not written: it is refused, or there is no room for it
 data Barred (x : Answer) (w : Refusal) (v : ℕ) : Type 0 where
@@ -36,12 +37,11 @@ module _ (bs body : List ℕ) (used : ℕ) where
   unfolding stored
   size-told (Refused w n) {m} e =
       let other : Size m ≡ Refused w n = ap (λ l. l .answer) e in
-      let z : _≡_ {A = ℕ} 0 1 = cc in
-      absurd (omega arith)
+      impossible cc
   size-told (Size n) {m} {new} e = go (leb (used + n) (length body)) refl e
     where
       go : (b : Bool) → leb (used + n) (length body) ≡ b
-          → leaves.left (Size m) new ≡ pick b (leaves.left (Size n) (sets body used bs)) (leaves.refuse refusal.Room n body)
+          → leaves.left (Size m) new ≡ cond b (leaves.left (Size n) (sets body used bs)) (leaves.refuse refusal.Room n body)
           → (Size n ≡ Size m) × (used + m ≤ length body)
       go true q e =
           let same : Size m ≡ Size n = ap (λ l. l .answer) e in
@@ -49,20 +49,18 @@ module _ (bs body : List ℕ) (used : ℕ) where
           (sym same, omega (arith, leb-true (used + n) (length body) q))
       go false q e =
           let other : Size m ≡ Refused refusal.Room n = ap (λ l. l .answer) e in
-          let z : _≡_ {A = ℕ} 0 1 = cc in
-          absurd (omega arith)
+          impossible cc
 
   refusal-told : (x : Answer) {w : Refusal} {v : ℕ} {new : List ℕ} → leaves.left (Refused w v) new ≡ stored x bs body used → Barred x w v
   unfolding stored
   refusal-told (Refused u n) e = Own (sym (ap (λ l. l .answer) e))
   refusal-told (Size n) {w} {v} {new} e = go (leb (used + n) (length body)) e
     where
-      go : (b : Bool) → leaves.left (Refused w v) new ≡ pick b (leaves.left (Size n) (sets body used bs)) (leaves.refuse refusal.Room n body)
+      go : (b : Bool) → leaves.left (Refused w v) new ≡ cond b (leaves.left (Size n) (sets body used bs)) (leaves.refuse refusal.Room n body)
           → Barred (Size n) w v
       go true e =
           let other : Refused w v ≡ Size n = ap (λ l. l .answer) e in
-          let z : _≡_ {A = ℕ} 0 1 = cc in
-          absurd (omega arith)
+          impossible cc
       go false e =
           let same : Refused w v ≡ Refused refusal.Room n = ap (λ l. l .answer) e in
           let p : n ≡ v = cc in

@@ -2,7 +2,7 @@
 use Prim.Native.Nat.{ℕ, _+_, _*_, _≤_, _<_}
 use native.Mathlib.Omega.{arith}
 use mathlib.Core.Path.{_≡_, refl, sym, ap, _∙_, subst}
-use mathlib.Core.Bool.{Bool, true, false}
+use mathlib.Core.Bool.{Bool, true, false, cond}
 use mathlib.Core.List.{List, [], _∷_}
 use borrow.Author.Tests.{le-leb, lt-leb, leb-true}
 use lib.Dec.{leb}
@@ -15,14 +15,12 @@ use Rattle.fields.specs.declared.Refusal.{Refusal}
 use Rattle.fields.specs.declared.Refusal.the-variants as refusal
 use Rattle.fields.specs.declared.Leaf.{Leaf}
 use Rattle.fields.specs.declared.Leaf.the-variants.{Fine, Bad}
-use Rattle.fields.specs.Binary.{pick}
-use Rattle.fields.specs.Run.{Wrote}
-use Rattle.fields.specs.Write as leaves
-use Rattle.fields.proofs.WroteLaws.{same-size}
-use Rattle.sections.specs.Section.{writeFamily}
-use Rattle.sections.specs.Section.{measuredFamily, familyBytes}
+use Rattle.writing.specs.inside.Wrote.{Wrote}
+use Rattle.fields.specs.Answers as leaves
+use Rattle.writing.proofs.WroteLaws.{same-size}
+use Rattle.sections.specs.Section.{writeFamily, measuredFamily, familyBytes}
 use Rattle.sheets.specs.Sheet.{tried, tries, joined}
-use Rattle.sheets.specs.Steps.{laid, rowsIn, InRows, Fits, Passed}
+use Rattle.sheets.specs.inside.Steps.{laid, rowsIn, InRows, Fits, Passed}
 use Rattle.sheets.proofs.FamilyLaws.{family-row, family-written}
 use Rattle.sheets.proofs.LaidLaws.{Here, endOf, rowAt, no-rows, turn}
 
@@ -93,7 +91,7 @@ module _ (family : ℕ) (pool : List ℕ) (room : ℕ) where
       go (Refused w n) e p = absurd p
       go (Size m) e p = room-for (leb (used + m) room) refl p
         where
-          room-for : (b : Bool) → leb (used + m) room ≡ b → Passed (pick b (each rows (r + 1) (used + m)) (Bad refusal.Room r)) → Took row rows r used
+          room-for : (b : Bool) → leb (used + m) room ≡ b → Passed (cond b (each rows (r + 1) (used + m)) (Bad refusal.Room r)) → Took row rows r used
           room-for true q p =
               record {
                 first = record { size = m; measures = e; fits = leb-true _ _ q };

@@ -5,14 +5,15 @@ use mathlib.Core.List.{List, [], _∷_}
 use Rattle.numbers.specs.Leb.{bytesOf}
 use Rattle.fields.specs.declared.Answer.the-variants.{Size, Refused}
 use Rattle.fields.specs.declared.Refusal.the-variants as refusal
-use Rattle.fields.specs.Binary.{primvaltype, bytes}
-use Rattle.fields.specs.Judge.{wide, flaw, judge}
-use Rattle.fields.specs.Row.{measuredRow, rowBytes}
+use Rattle.writing.specs.Binary.{primvaltype, bytes}
+use Rattle.fields.specs.Words.{wide}
+use Rattle.writing.specs.Judge.{flaw, judge}
+use Rattle.writing.specs.Row.{measuredRow, rowBytes}
 use Rattle.fields.specs.Shape.{repeated, seq, widths, rowWidth}
 use Rattle.fields.specs.Table.{shapeIn}
 use Rattle.fields.specs.View.{view}
 use Rattle.fields.specs.Walk.{walk, outs}
-use Rattle.fields.specs.Write.{sized, measured}
+use Rattle.writing.specs.Write.{sized, measured}
 use Rattle.types.specs.Write.{measuredType}
 use Rattle.sheets.specs.Frame.{number, words, rowsFrom, framed}
 use Rattle.sections.specs.Section.{measuredFamily, familyBytes}

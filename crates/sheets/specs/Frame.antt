@@ -1,10 +1,9 @@
 -- The framing of a sheet: version 01, pool length, pool, then rows of a word count and words; every number is four bytes, big-endian.
-use Prim.Native.Nat.{ℕ, zero, suc, _+_, _-_, _*_}
-use mathlib.Core.Bool.{Bool, true, false}
+use Prim.Native.Nat.{ℕ, zero, suc, _+_, _*_}
+use mathlib.Core.Bool.{cond}
 use mathlib.Core.List.{List, [], _∷_}
 use lib.Dec.{eqb, ltb}
 use lib.ListN.{length, getD, take, drop}
-use Rattle.fields.specs.Binary.{pick}
 
 -- the number at `at`
 unfoldable pub number : List ℕ → ℕ → ℕ
@@ -26,11 +25,11 @@ behind row Broken = Broken
 
 -- the rows from `at` to the end of the sheet, at most k of them
 unfoldable pub rowsFrom : ℕ → List ℕ → ℕ → Rows
-rowsFrom zero s at = pick (eqb at (length s)) (Are []) Broken
+rowsFrom zero s at = cond (eqb at (length s)) (Are []) Broken
 rowsFrom (suc k) s at =
-    pick (eqb at (length s)) (Are [])
-    (pick (ltb (length s) (at + 4)) Broken
-    (pick (ltb (length s) (at + 4 + 4 * number s at)) Broken
+    cond (eqb at (length s)) (Are [])
+    (cond (ltb (length s) (at + 4)) Broken
+    (cond (ltb (length s) (at + 4 + 4 * number s at)) Broken
     (behind (words s (at + 4) (number s at)) (rowsFrom k s (at + 4 + 4 * number s at)))))
 
 -- there is a row
@@ -49,6 +48,11 @@ poolOf s = take (poolLength s) (drop 5 s)
 -- the whole frame
 unfoldable pub framed : List ℕ → Rows
 framed s =
-    pick (ltb (length s) 5) Broken
-    (pick (eqb (getD s 0 0) 1)
-    (pick (ltb (length s) (5 + poolLength s)) Broken (some (rowsFrom (length s) s (5 + poolLength s)))) Broken)
+    cond (ltb (length s) 5) Broken
+    (cond (eqb (getD s 0 0) 1)
+    (cond (ltb (length s) (5 + poolLength s)) Broken (some (rowsFrom (length s) s (5 + poolLength s)))) Broken)
+
+-- the rows of a frame that is whole
+abbrev pub listed : Rows → List (List ℕ)
+listed (Are rows) = rows
+listed Broken = []

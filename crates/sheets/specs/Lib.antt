@@ -1,3 +1,3 @@
 pub mod Frame
 pub mod Sheet
-pub mod Steps
+pub mod inside

@@ -1,6 +1,6 @@
 -- A sheet: its framing whole, then all rows tried in order with body and output room, and then the bytes.
 use Prim.Native.Nat.{ℕ, _+_}
-use mathlib.Core.Bool.{Bool, true, false}
+use mathlib.Core.Bool.{cond}
 use mathlib.Core.List.{List, [], _∷_, _++_}
 use lib.Dec.{eqb, ltb, leb}
 use lib.ListN.{length}
@@ -12,10 +12,11 @@ use Rattle.fields.specs.declared.Refusal.{Refusal}
 use Rattle.fields.specs.declared.Refusal.the-variants as refusal
 use Rattle.fields.specs.declared.Leaf.{Leaf}
 use Rattle.fields.specs.declared.Leaf.the-variants.{Fine, Bad}
-use Rattle.fields.specs.Binary.{pick, word}
+use Rattle.fields.specs.Words.{word}
 use Rattle.sections.specs.Finish as finish
 use Rattle.sections.specs.Section.{measuredFamily, familyBytes}
 use Rattle.sheets.specs.Frame.{Rows, Are, Broken, framed, poolOf}
+use Rattle.fields.specs.Limits.{sheetBytes}
 
 -- what the routine leaves: its answer, the body and the output
 pub record Left : Type 0 where
@@ -31,11 +32,11 @@ refuse w n body out = left (Refused w n) body out
 
 -- the first row sets the family
 unfoldable pub familyOf : ℕ → ℕ
-familyOf kind = pick (leb 256 kind) 8 (pick (eqb kind 17) 10 7)
+familyOf kind = cond (leb 256 kind) 8 (cond (eqb kind 17) 10 7)
 
 -- a row's answer, with `used` of `room` bytes taken and r rows before it
 abbrev pub tried : Answer → ℕ → ℕ → ℕ → (ℕ → Leaf) → Leaf
-tried (Size m) room used r go = pick (leb (used + m) room) (go (used + m)) (Bad refusal.Room r)
+tried (Size m) room used r go = cond (leb (used + m) room) (go (used + m)) (Bad refusal.Room r)
 tried (Refused w n) room used r go = Bad w r
 
 -- all rows in order: how many there are and the bytes they take, or the first refusal and its row
@@ -55,7 +56,7 @@ section family r bytes = finish.framed family (length (unsigned r) + length byte
 
 unfoldable pub finished : ℕ → ℕ → List ℕ → List ℕ → List ℕ → Left
 finished family r bytes body out =
-    pick (leb (length (section family r bytes)) (length out))
+    cond (leb (length (section family r bytes)) (length out))
     (left (Size (length (section family r bytes))) (sets body 0 bytes) (sets out 0 (section family r bytes)))
     (refuse refusal.Room r body out)
 
@@ -73,4 +74,4 @@ ofRows (Are (row ∷ rows)) pool body out =
 -- a sheet too long is LIMIT
 unfoldable pub sheeted : List ℕ → List ℕ → List ℕ → Left
 sheeted input body out =
-    pick (ltb 65536 (length input)) (refuse refusal.Limit 0 body out) (ofRows (framed input) (poolOf input) body out)
+    cond (ltb sheetBytes (length input)) (refuse refusal.Limit 0 body out) (ofRows (framed input) (poolOf input) body out)

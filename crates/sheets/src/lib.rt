@@ -1,21 +1,23 @@
 // A sheet: a pool and rows in one run of bytes, tried whole before a byte is written, and finished as a section.
 use fields::Answer;
 use fields::Leaf;
+use fields::ROW_WORDS;
 use fields::Refusal;
+use fields::SHEET_BYTES;
 use sections::Phase;
 use sections::Section;
 ghost use mathlib.Core.Path.{_≡_};
 ghost use Prim.Native.Nat.{_<_, _≤_, _+_, _*_};
 ghost use lib.ListN.{length};
 ghost use lib.Seq.{sets};
-ghost use Rattle.fields.specs.Run.{Wrote};
-ghost use Rattle.fields.specs.Write as leaves;
+ghost use Rattle.writing.specs.inside.Wrote.{Wrote};
+ghost use Rattle.fields.specs.Answers as leaves;
 ghost use Rattle.sheets.specs.Frame.{number, words, framed, poolOf};
 ghost use Rattle.sections.specs.Section.{measuredFamily, familyBytes};
 ghost use Rattle.sections.specs.Finish.{finishing};
 ghost use Rattle.sheets.specs.Sheet.{left, tries, joined, ofRows, sheeted};
-ghost use Rattle.sheets.specs.Steps.{rest, whole, Framed, RowsAt, Starts, firstFamily};
-ghost use Rattle.sheets.specs.Steps.{rowsIn, InRows, Fits, Passed, Makes, SheetWords, wordsLeft, sectionSize, closed};
+ghost use Rattle.sheets.specs.inside.Steps.{rest, whole, Framed, RowsAt, Starts, firstFamily, rowsIn, InRows, Fits, Passed, Makes, SheetWords, wordsLeft, sectionSize, closed};
+ghost use Rattle.fields.specs.Limits.{sheetBytes};
 
 // Where a sheet's rows start.
 enum Framing {
@@ -115,7 +117,10 @@ fn measure_by(family: u32, row: &[u32], pool: &[u8]) -> Answer
     if family == 8 {
         return canonicals::measure(row, pool);
     }
-    imports::measure(row, pool)
+    if family == 10 {
+        return imports::measure(row, pool);
+    }
+    Answer::Refused(Refusal::Limit, 0)
 }
 
 // All rows of the words tried in order: how many they are and the bytes they take, or the first that is refused.
@@ -293,7 +298,7 @@ fn sheet_rows(
     out: &mut [u8],
 ) -> Answer
     requires { ⌜ RowsAt (now input) start ⌝ }
-    requires { ⌜ length (now input) ≤ 65536 ⌝ }
+    requires { ⌜ length (now input) ≤ sheetBytes ⌝ }
     requires { ⌜ length (now input) ≤ 4 * length (now scratch) ⌝ }
     ensures { λ r. ⌜ left r (now (body .exit)) (now (out .exit)) ≡ ofRows (framed (now (input .entry))) (poolOf (now (input .entry))) (now (body .entry)) (now (out .entry)) ⌝ }
 {
@@ -329,18 +334,18 @@ fn sheet_middle(input: &[u8], start: usize, body: &mut [u8], out: &mut [u8]) -> 
 // The same with 16,384 words, enough for the longest sheet, and 65,536 bytes.
 fn sheet_large(input: &[u8], start: usize, body: &mut [u8], out: &mut [u8]) -> Answer
     requires { ⌜ RowsAt (now input) start ⌝ }
-    requires { ⌜ length (now input) ≤ 65536 ⌝ }
+    requires { ⌜ length (now input) ≤ sheetBytes ⌝ }
     ensures { λ r. ⌜ left r (now (body .exit)) (now (out .exit)) ≡ ofRows (framed (now (input .entry))) (poolOf (now (input .entry))) (now (body .entry)) (now (out .entry)) ⌝ }
 {
-    let mut scratch = [0u32; 16384];
-    let mut made = [0u8; 65536];
+    let mut scratch = [0u32; ROW_WORDS];
+    let mut made = [0u8; SHEET_BYTES];
     sheet_rows(input, start, &mut scratch, &mut made, body, out)
 }
 
 // The rows with the smallest of the three scratch rows that has a word for every four bytes of the sheet.
 fn sheet_sized(input: &[u8], start: usize, body: &mut [u8], out: &mut [u8]) -> Answer
     requires { ⌜ RowsAt (now input) start ⌝ }
-    requires { ⌜ length (now input) ≤ 65536 ⌝ }
+    requires { ⌜ length (now input) ≤ sheetBytes ⌝ }
     ensures { λ r. ⌜ left r (now (body .exit)) (now (out .exit)) ≡ ofRows (framed (now (input .entry))) (poolOf (now (input .entry))) (now (body .entry)) (now (out .entry)) ⌝ }
 {
     if input.len() <= 1024 {
@@ -357,7 +362,7 @@ fn sheet_sized(input: &[u8], start: usize, body: &mut [u8], out: &mut [u8]) -> A
 pub fn sheet(input: &[u8], body: &mut [u8], out: &mut [u8]) -> Answer
     ensures { λ r. ⌜ left r (now (body .exit)) (now (out .exit)) ≡ sheeted (now (input .entry)) (now (body .entry)) (now (out .entry)) ⌝ }
 {
-    if 65536 < input.len() {
+    if SHEET_BYTES < input.len() {
         return Answer::Refused(Refusal::Limit, 0);
     }
     match rows_of(input) {

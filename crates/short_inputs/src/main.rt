@@ -12,8 +12,9 @@
 // Bad, unsigned: a last byte 00 after one or two bytes that go on: 0, 128 and then 128 * 256 + 128^2 = 49,152.
 // Bad, signed: 1 byte: 40..7f, 64. 2 bytes: 64 * 256, and 128 first bytes with 40..7f, 128 * 64, and the 64 of two bytes below 64
 //   (80..bf 00): 24,640. 3 bytes: 256 times that, and 128^2 * 64, and the 8,192 of three bytes below 8,192: 7,364,608.
-use libc::STDOUT_FILENO;
 use numbers::Taken;
+use telling::say;
+use telling::say_field;
 
 // What one number form makes of the inputs of one length.
 struct Numbers {
@@ -64,22 +65,13 @@ fn one_more(n: u64) -> u64 {
     std::num::wrapping_add_u64(n, 1)
 }
 
-fn word(text: &[u8]) {
-    io::write_all(STDOUT_FILENO, text);
-}
-
-fn number(text: &[u8], n: u64) {
-    word(text);
-    io::print_decimal(STDOUT_FILENO, n);
-}
-
 fn print(form: &[u8], n: Numbers) {
-    word(form);
-    number(b" whole ", n.whole);
-    number(b" longer ", n.longer);
-    number(b" cut ", n.cut);
-    number(b" bad ", n.bad);
-    word(b"\n");
+    say(form);
+    say_field(b" whole ", n.whole);
+    say_field(b" longer ", n.longer);
+    say_field(b" cut ", n.cut);
+    say_field(b" bad ", n.bad);
+    say(b"\n");
 }
 
 // Every input of `length` bytes, of which there are `total`.
@@ -102,9 +94,9 @@ fn every(length: usize, total: u32) {
         }
         i += 1;
     }
-    number(b"inputs of length ", length as u64);
-    number(b": text ", text);
-    word(b"\n");
+    say_field(b"inputs of length ", length as u64);
+    say_field(b": text ", text);
+    say(b"\n");
     print(b"  unsigned", unsigned);
     print(b"  signed", signed);
 }

@@ -22,14 +22,18 @@
 // it was, or a step that was taken changed a byte that it does not count. What is none of these, or passes the program's own buffers,
 // is a line that begins with `?`.
 use fields::Answer;
-use fields::Refusal;
 use libc::STDIN_FILENO;
-use libc::STDOUT_FILENO;
 use sections::Phase;
 use sections::Section;
 use sections::Turned;
-ghost use Prim.Native.Nat.{_<_, _≤_};
-ghost use lib.ListN.{length};
+use telling::is_kept;
+use telling::number_at;
+use telling::say;
+use telling::say_field;
+use telling::say_line;
+use telling::starts_with;
+use telling::word;
+use telling::word_of;
 
 // The program's own buffers: a row of 16,384 words and a pool of 65,536 bytes fit, and some more, so that both can be passed.
 const WORDS: usize = 16400;
@@ -72,55 +76,6 @@ enum Step {
     Abandon,
 }
 
-fn say(text: &[u8]) {
-    io::write_all(STDOUT_FILENO, text);
-}
-
-fn say_line(text: &[u8]) {
-    say(text);
-    say(b"\n");
-}
-
-fn say_field(name: &[u8], n: u64) {
-    say(name);
-    io::print_decimal(STDOUT_FILENO, n);
-}
-
-fn wide(x: u8) -> u64
-    ensures { λ r. ⌜ r < 256 ⌝ }
-{
-    x as u64
-}
-
-fn say_bytes(bytes: &[u8]) {
-    let mut i = 0;
-    while i < bytes.len() {
-        io::print_hex(STDOUT_FILENO, wide(bytes[i]), 2);
-        i += 1;
-    }
-}
-
-// Document 01's name.
-fn say_name(why: Refusal) {
-    match why {
-        Refusal::Limit => say(b"LIMIT"),
-        Refusal::Kind => say(b"KIND"),
-        Refusal::Row => say(b"ROW"),
-        Refusal::Tag => say(b"TAG"),
-        Refusal::Range => say(b"RANGE"),
-        Refusal::Text => say(b"TEXT"),
-        Refusal::TooBig => say(b"TOO_BIG"),
-        Refusal::Room => say(b"ROOM"),
-        Refusal::Order => say(b"ORDER"),
-        Refusal::Count => say(b"COUNT"),
-        Refusal::Cut => say(b"CUT"),
-        Refusal::Code => say(b"CODE"),
-        Refusal::Number => say(b"NUMBER"),
-        Refusal::Newer => say(b"NEWER"),
-        Refusal::Sheet => say(b"SHEET"),
-    }
-}
-
 fn phase_number(phase: Phase) -> u64 {
     match phase {
         Phase::Closed => 0,
@@ -153,23 +108,8 @@ fn say_state(section: Section) {
 fn say_shown(bytes: &[u8]) {
     if 0 < bytes.len() {
         say(b" ");
-        say_bytes(bytes);
+        telling::say_bytes(bytes);
     }
-}
-
-fn say_refusal(why: Refusal, value: usize) {
-    say_field(b"refused ", fields::number_of(why) as u64);
-    say_field(b" ", value as u64);
-    say(b" ");
-    say_name(why);
-}
-
-// Ends the line of a step.
-fn end_line(kept: bool) {
-    if !kept {
-        say(b" changed");
-    }
-    say(b"\n");
 }
 
 // The line of a step: its answer, the state it leaves, and the bytes it shows if it was taken.
@@ -181,44 +121,11 @@ fn say_step(answer: Answer, section: Section, shown: &[u8], kept: bool) {
             say_shown(shown);
         }
         Answer::Refused(why, value) => {
-            say_refusal(why, value);
+            telling::say_refusal(why, value);
             say_state(section);
         }
     }
-    end_line(kept);
-}
-
-// What stands at a place of a fresh body: aa to e9, no two neighbours alike.
-fn pattern(i: usize) -> u8 {
-    170 + (i % 64) as u8
-}
-
-fn fill(out: &mut [u8]) {
-    let mut i = 0;
-    while i < out.len() {
-        out[i] = pattern(i);
-        i += 1;
-    }
-}
-
-// Whether every byte outside the `size` bytes from `at` on is as it was.
-fn is_kept(old: &[u8], out: &[u8], at: usize, size: usize) -> bool {
-    if old.len() < out.len() {
-        return false;
-    }
-    let mut i = 0;
-    while i < out.len() {
-        if out[i] != old[i] {
-            if i < at {
-                return false;
-            }
-            if size <= i - at {
-                return false;
-            }
-        }
-        i += 1;
-    }
-    true
+    telling::end_line(kept);
 }
 
 fn is_same(a: Section, b: Section) -> bool {
@@ -255,22 +162,14 @@ fn is_state_kept(answer: Answer, before: Section, after: Section) -> bool {
     }
 }
 
-// The word at a place; 0 where there is none.
-fn word_at(words: &[u32], i: usize) -> u32 {
-    if i < words.len() {
-        return words[i];
-    }
-    0
-}
-
 // The step taken.
 fn take(step: Step, section: Section, words: &[u32], pool: &[u8], body: &mut [u8]) -> Turned {
     match step {
         Step::Row => section.row(words, pool, body),
         Step::Open => section.open(body),
-        Step::Async => section.make_async(word_at(words, 0), body),
+        Step::Async => section.make_async(word(words, 0), body),
         Step::Params => section.params(words, pool, body),
-        Step::Result => section.result(word_at(words, 0), word_at(words, 1), body),
+        Step::Result => section.result(word(words, 0), word(words, 1), body),
         Step::Abandon => section.abandon(body),
     }
 }
@@ -304,90 +203,10 @@ fn try_words(
     try_step(step, section, &words[..n], pool, body)
 }
 
-// A decimal number with one digit more. The last four bits of an ASCII digit are its value.
-fn with_digit(n: u64, digit: u8) -> u64 {
-    std::num::wrapping_add_u64(n % 1844674407370955162 * 10, wide(digit % 16))
-}
-
-fn word_of(n: u64) -> u32 {
-    (n % 4294967296) as u32
-}
-
-fn with_last(word: u32, digit: u8) -> u32 {
-    word_of(with_digit(word as u64, digit))
-}
-
-// The words of a row after one byte of its text more: a space begins a word, anything else is a digit of the last one.
-fn with_byte(row: &mut [u32], words: usize, byte: u8) -> usize
-    requires { ⌜ words ≤ length (now row) ⌝ }
-    ensures { λ r. ⌜ r ≤ length (now (row .entry)) ⌝ }
-{
-    if byte == b' ' {
-        if words < row.len() {
-            row[words] = 0;
-            return words + 1;
-        }
-        return words;
-    }
-    if 0 < words {
-        row[words - 1] = with_last(row[words - 1], byte);
-    }
-    words
-}
-
-// The words of a text, each after a space: how many are put into the row.
-fn words_of(text: &[u8], row: &mut [u32]) -> usize {
-    let mut words = 0;
-    let mut i = 0;
-    while i < text.len() {
-        words = with_byte(row, words, text[i]);
-        i += 1;
-    }
-    words
-}
-
-// A number of a text, while its bytes go by.
-struct Reading {
-    // How many spaces went by.
-    spaces: u64,
-    number: u64,
-}
-
-impl Reading {
-    // One byte more: the number is what follows as many spaces.
-    fn with(self, byte: u8, place: u64) -> Reading {
-        let mut next = self;
-        if byte == b' ' {
-            next.spaces = std::num::wrapping_add_u64(self.spaces, 1);
-        } else if self.spaces == place {
-            next.number = with_digit(self.number, byte);
-        }
-        next
-    }
-}
-
-// The number after so many spaces.
-fn number_at(text: &[u8], place: u64) -> u64 {
-    let mut reading = Reading {
-        spaces: 0,
-        number: 0,
-    };
-    let mut i = 0;
-    while i < text.len() {
-        reading = reading.with(text[i], place);
-        i += 1;
-    }
-    reading.number
-}
-
-fn size_at(text: &[u8], place: u64) -> usize {
-    number_at(text, place) as usize
-}
-
-// The step with the words of a text.
-fn try_given(step: Step, section: Section, text: &[u8], pool: &[u8], body: &mut [u8]) -> Section {
+// The step with the words of a line.
+fn try_given(step: Step, section: Section, line: &[u8], pool: &[u8], body: &mut [u8]) -> Section {
     let mut words = [0u32; WORDS];
-    let n = words_of(text, &mut words);
+    let n = telling::words_of(line, &mut words);
     try_words(step, section, &words, n, pool, body)
 }
 
@@ -395,7 +214,7 @@ fn try_given(step: Step, section: Section, text: &[u8], pool: &[u8], body: &mut 
 fn try_long(
     step: Step,
     section: Section,
-    first: u64,
+    first: usize,
     n: usize,
     pool: &[u8],
     body: &mut [u8],
@@ -408,8 +227,8 @@ fn try_long(
 // Finishes into a buffer, and prints the line.
 fn try_out(section: Section, body: &[u8], out: &mut [u8]) {
     let mut old = [0u8; BODY];
-    fill(&mut old);
-    fill(out);
+    telling::fill(&mut old, false);
+    telling::fill(out, false);
     let answer = section.finish(body, out);
     let size = size_in(answer);
     say_step(
@@ -423,18 +242,19 @@ fn try_out(section: Section, body: &[u8], out: &mut [u8]) {
 // Finishes into the first `room` bytes of a buffer.
 fn try_room(section: Section, body: &[u8], room: usize, out: &mut [u8]) {
     if out.len() < room {
-        return say_line(b"? too much room");
+        say_line(b"? too much room");
+        return;
     }
     try_out(section, body, &mut out[..room]);
 }
 
-// Finishes into a buffer of as many bytes as a text says.
-fn try_finish(section: Section, text: &[u8], body: &[u8]) {
+// Finishes into a buffer of as many bytes as a line says.
+fn try_finish(section: Section, line: &[u8], body: &[u8]) {
     let mut out = [0u8; BODY];
-    try_room(section, body, size_at(text, 1), &mut out);
+    try_room(section, body, number_at(line, 0), &mut out);
 }
 
-fn phase_of(phase: u64, start: usize) -> Phase {
+fn phase_of(phase: usize, start: usize) -> Phase {
     match phase {
         1 => Phase::Opened(start),
         2 => Phase::Asynced(start),
@@ -444,51 +264,13 @@ fn phase_of(phase: u64, start: usize) -> Phase {
 }
 
 // The state of five numbers.
-fn state_of(text: &[u8]) -> Section {
+fn state_of(line: &[u8]) -> Section {
     Section {
-        family: word_of(number_at(text, 1)),
-        used: size_at(text, 2),
-        count: word_of(number_at(text, 3)),
-        phase: phase_of(number_at(text, 4), size_at(text, 5)),
+        family: word_of(number_at(line, 0)),
+        used: number_at(line, 1),
+        count: word_of(number_at(line, 2)),
+        phase: phase_of(number_at(line, 3), number_at(line, 4)),
     }
-}
-
-// What follows the first n bytes of a line.
-fn after(line: &[u8], n: usize) -> &[u8] {
-    if n <= line.len() {
-        &line[n..]
-    } else {
-        &line[..0]
-    }
-}
-
-// Where a byte stands next from a place on, or the end.
-fn next_of(input: &[u8], from: usize, byte: u8) -> usize
-    requires { ⌜ from ≤ length (now input) ⌝ }
-    ensures { λ r. ⌜ (from ≤ r) × (r ≤ length (now (input .entry))) ⌝ }
-{
-    let mut i = from;
-    while i < input.len() {
-        if input[i] == byte {
-            return i;
-        }
-        i += 1;
-    }
-    i
-}
-
-fn starts_with(line: &[u8], word: &[u8]) -> bool {
-    if line.len() < word.len() {
-        return false;
-    }
-    let mut i = 0;
-    while i < word.len() {
-        if line[i] != word[i] {
-            return false;
-        }
-        i += 1;
-    }
-    true
 }
 
 fn step_of(line: &[u8]) -> Command {
@@ -547,36 +329,21 @@ fn command_of(line: &[u8]) -> Command {
     step_of(line)
 }
 
-// The pool begins with the bytes of a text: how many they are.
-fn pool_of(text: &[u8], pool: &mut [u8]) -> usize {
-    numbers::copy(text, 0, pool);
-    text.len()
-}
-
 // Takes the step that a line names, beside that pool and over that body, and answers the state it leaves.
 fn act_on(
     command: Command,
-    text: &[u8],
+    line: &[u8],
     section: Section,
     pool: &[u8],
     body: &mut [u8],
 ) -> Section {
-    let first = number_at(text, 1);
+    let first = number_at(line, 0);
     match command {
-        Command::Take(step) => try_given(step, section, text, pool, body),
-        Command::Long => try_long(Step::Row, section, first, size_at(text, 2), pool, body),
-        Command::LongParams => {
-            try_long(
-                Step::Params,
-                section,
-                first / 4,
-                size_at(text, 1),
-                pool,
-                body,
-            )
-        }
+        Command::Take(step) => try_given(step, section, line, pool, body),
+        Command::Long => try_long(Step::Row, section, first, number_at(line, 1), pool, body),
+        Command::LongParams => try_long(Step::Params, section, first / 4, first, pool, body),
         Command::Finish => {
-            try_finish(section, text, body);
+            try_finish(section, line, body);
             section
         }
         _ => {
@@ -587,7 +354,7 @@ fn act_on(
 }
 
 // The same with pool, body and state as set.
-fn act(command: Command, text: &[u8], set: Setting, pool: &[u8], body: &mut [u8]) -> Section {
+fn act(command: Command, line: &[u8], set: Setting, pool: &[u8], body: &mut [u8]) -> Section {
     let section = set.section;
     let size = set.pool;
     let room = set.body;
@@ -599,38 +366,41 @@ fn act(command: Command, text: &[u8], set: Setting, pool: &[u8], body: &mut [u8]
         say_line(b"? too long a body");
         return section;
     }
-    act_on(command, text, section, &pool[..size], &mut body[..room])
+    act_on(command, line, section, &pool[..size], &mut body[..room])
 }
 
 // Does what a line says, and answers what is set from there on.
 fn obey(line: &[u8], set: Setting, pool: &mut [u8], body: &mut [u8]) -> Setting {
     let command = command_of(line);
-    let text = after(line, next_of(line, 0, b' '));
     let mut next = set;
     match command {
-        Command::Label => say_line(line),
+        Command::Label => {
+            say_line(line);
+        }
         Command::Pool => {
-            next.pool = pool_of(after(text, 1), pool);
+            let size = telling::size_after(line, 5);
+            numbers::copy(numbers::part(line, 5, size), 0, pool);
+            next.pool = size;
         }
         Command::PoolSize => {
-            pool_of(&[b'a'; POOL], pool);
-            next.pool = size_at(text, 1);
+            numbers::copy(&[b'a'; POOL], 0, pool);
+            next.pool = number_at(line, 0);
         }
         Command::Body => {
-            fill(body);
-            next.body = size_at(text, 1);
+            telling::fill(body, false);
+            next.body = number_at(line, 0);
         }
         Command::Grow => {
-            next.body = size_at(text, 1);
+            next.body = number_at(line, 0);
         }
         Command::State => {
-            next.section = state_of(text);
+            next.section = state_of(line);
         }
         Command::New => {
-            next.section = Section::new(word_of(number_at(text, 1)));
+            next.section = Section::new(word_of(number_at(line, 0)));
         }
         _ => {
-            next.section = act(command, text, set, pool, body);
+            next.section = act(command, line, set, pool, body);
         }
     }
     next
@@ -645,7 +415,7 @@ fn run(input: &[u8], pool: &mut [u8], body: &mut [u8]) {
     };
     let mut from = 0;
     while from < input.len() {
-        let end = next_of(input, from, b'\n');
+        let end = telling::next_of(input, from, b'\n');
         set = obey(&input[from..end], set, pool, body);
         from = end + 1;
     }
@@ -655,7 +425,8 @@ fn main() {
     let mut input = io::large_buffer();
     let n = io::read_full(STDIN_FILENO, &mut input);
     if n == 65536 {
-        return say_line(b"? too long an input");
+        say_line(b"? too long an input");
+        return;
     }
     let mut pool = [0u8; POOL];
     let mut body = [0u8; BODY];

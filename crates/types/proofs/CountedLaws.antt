@@ -2,7 +2,7 @@
 use Prim.Native.Nat.{ℕ, zero, suc, _+_, _-_, _≤_, _<_}
 use native.Mathlib.Omega.{arith}
 use mathlib.Core.Path.{_≡_, refl, sym, ap, _∙_, subst}
-use mathlib.Core.Bool.{Bool, true, false}
+use mathlib.Core.Bool.{Bool, true, false, cond}
 use mathlib.Core.List.{List, [], _∷_, _++_}
 use lib.Dec.{eqb}
 use lib.ListN.{length, drop, set, length-append}
@@ -15,20 +15,22 @@ use Rattle.numbers.specs.declared.bytes.Stored.{Stored}
 use Rattle.fields.specs.declared.Field.{Field}
 use Rattle.fields.specs.declared.Field.the-variants as field
 use Rattle.fields.specs.declared.Flaw.the-variants.{Right}
-use Rattle.fields.specs.Binary.{pick, word, valtype, optional, bytes}
-use Rattle.fields.specs.Judge.{wide, flaw}
-use Rattle.fields.specs.Run.{Wrote}
+use Rattle.fields.specs.Words.{word, wide}
+use Rattle.writing.specs.Binary.{valtype, optional, bytes}
+use Rattle.writing.specs.Judge.{flaw}
+use Rattle.writing.specs.inside.Wrote.{Wrote}
 use Rattle.fields.specs.Shape.{repeated, widths}
 use Rattle.fields.specs.Table.{elements}
-use Rattle.fields.proofs.TableLaws.{strings}
-use Rattle.fields.proofs.WroteLaws.{then, then-byte, same-size, room-first, room-then, of-store}
-use Rattle.writing.specs.Seen.{rightSize, Seen, Rights}
+use Rattle.writing.proofs.TableLaws.{strings}
+use Rattle.writing.proofs.WroteLaws.{then, then-byte, same-size, room-first, room-then, of-store}
+use Rattle.writing.specs.Sizes.{rightSize}
+use Rattle.writing.specs.inside.Rows.{Known, Rights}
 use Rattle.writing.proofs.RowLaws.{
-  seen-of,
-  value-seen,
+  known-of,
+  value-known,
   value-small,
   name-small,
-  case-seen,
+  case-known,
   name-at,
   value-at,
   case-at,
@@ -51,12 +53,12 @@ use Rattle.writing.proofs.GroupLaws.{
   case-element,
   byte-wrote,
 }
-use Rattle.types.specs.Seen.{OptionalSeen}
+use Rattle.types.specs.inside.Optional.{OptionalKnown}
 use Rattle.types.specs.Table.{label, labelvaltype, case}
 
 -- ---- an element that is seen
 
-module _ (f g : Field) (pool row : List ℕ) (at : ℕ) {p q : ℕ} (a : Seen pool f (drop at row) p) (b : Seen pool g (drop (at + wide f) row) q) where
+module _ (f g : Field) (pool row : List ℕ) (at : ℕ) {p q : ℕ} (a : Known pool f (drop at row) p) (b : Known pool g (drop (at + wide f) row) q) where
   two-right : Rights pool (f ∷ g ∷ []) (drop at row)
   unfolding Rights
   two-right = (a .right, (subst (λ l. flaw pool g l ≡ Right) (sym (drop-drop (wide f) at row)) (b .right), tt))
@@ -78,10 +80,10 @@ module _ (f g : Field) (pool row : List ℕ) (at : ℕ) {p q : ℕ} (a : Seen po
 -- two fields are seen, of which an element has the bytes
 module _ (f g : Field) (pool : List ℕ) {element : List ℕ → List ℕ} (same : (ws : List ℕ) → element ws ≡ strings pool (f ∷ g ∷ []) ws) {most : ℕ}
     {row : List ℕ} {from n base left at made : ℕ} where
-  seen-next : Going pool (f ∷ g ∷ []) element most row from n base left at made → 0 < left
-      → {p q one at′ : ℕ} → Seen pool f (drop at row) p → Seen pool g (drop (at + wide f) row) q → one ≡ p + q → one ≤ most
+  known-next : Going pool (f ∷ g ∷ []) element most row from n base left at made → 0 < left
+      → {p q one at′ : ℕ} → Known pool f (drop at row) p → Known pool g (drop (at + wide f) row) q → one ≡ p + q → one ≤ most
       → at′ ≡ at + widths (f ∷ g ∷ []) → Going pool (f ∷ g ∷ []) element most row from n base (left - 1) at′ (made + one)
-  seen-next k h a b e few ea =
+  known-next k h a b e few ea =
       going-next k h (two-right f g pool row at a b) (e ∙ two-size f g pool row at a b ∙ ap length (sym (same (drop at row)))) few ea
 
 -- a label of a small pool has few bytes
@@ -89,9 +91,9 @@ pub label-small : (pool row : List ℕ) (at : ℕ) {one : ℕ} → length pool �
     → one ≡ rightSize pool field.Name (word row at ∷ word row (at + 1) ∷ []) → one ≤ 65541
 label-small pool row at small e = omega (arith, e, name-small pool (word row at) (word row (at + 1)) small)
 
-label-seen : (pool row : List ℕ) (at : ℕ) {one : ℕ} → one ≡ rightSize pool field.Name (word row at ∷ word row (at + 1) ∷ []) → 0 < one
-    → Seen pool field.Name (drop at row) one
-label-seen pool row at e p = name-at pool row at refl refl (seen-of e p)
+label-known : (pool row : List ℕ) (at : ℕ) {one : ℕ} → one ≡ rightSize pool field.Name (word row at ∷ word row (at + 1) ∷ []) → 0 < one
+    → Known pool field.Name (drop at row) one
+label-known pool row at e p = name-at pool row at refl refl (known-of e p)
 
 module _ {pool row : List ℕ} {from n base left at made : ℕ} where
   pub label-next : Going pool (field.Name ∷ field.Nothing ∷ []) (label pool) 65541 row from n base left at made → 0 < left → length pool ≤ 65536
@@ -99,7 +101,7 @@ module _ {pool row : List ℕ} {from n base left at made : ℕ} where
       → Going pool (field.Name ∷ field.Nothing ∷ []) (label pool) 65541 row from n base (left - 1) (at + 2) (made + one)
   unfolding wide widths
   label-next k h small e p =
-      seen-next field.Name field.Nothing pool (name-element pool) k h (label-seen pool row at e p) (nothing-at pool (drop (at + 2) row)) (omega arith)
+      known-next field.Name field.Nothing pool (name-element pool) k h (label-known pool row at e p) (nothing-at pool (drop (at + 2) row)) (omega arith)
       (label-small pool row at small e) refl
 
   pub value-next : Going pool (field.Value ∷ field.Nothing ∷ []) (λ ws. valtype (word ws 0) (word ws 1)) 5 row from n base left at made → 0 < left
@@ -107,7 +109,7 @@ module _ {pool row : List ℕ} {from n base left at made : ℕ} where
       → Going pool (field.Value ∷ field.Nothing ∷ []) (λ ws. valtype (word ws 0) (word ws 1)) 5 row from n base (left - 1) (at + 2) (made + one)
   unfolding wide widths
   value-next k h e p =
-      seen-next field.Value field.Nothing pool (value-element pool) k h (value-at pool row at refl refl (value-seen e p pool))
+      known-next field.Value field.Nothing pool (value-element pool) k h (value-at pool row at refl refl (value-known e p pool))
       (nothing-at pool (drop (at + 2) row)) (omega arith) (omega (arith, e, value-small (word row at) (word row (at + 1)))) refl
 
   pub field-next : Going pool (field.Name ∷ field.Value ∷ []) (labelvaltype pool) 65546 row from n base left at made → 0 < left
@@ -117,24 +119,24 @@ module _ {pool row : List ℕ} {from n base left at made : ℕ} where
   unfolding wide widths
   field-next k h small e p d q =
       let i : at + 3 ≡ at + 2 + 1 = omega arith in
-      seen-next field.Name field.Value pool (labelled-element pool) k h (label-seen pool row at e p)
-      (value-at pool row (at + 2) refl (ap (λ j. word row j) i) (value-seen d q pool)) refl
+      known-next field.Name field.Value pool (labelled-element pool) k h (label-known pool row at e p)
+      (value-at pool row (at + 2) refl (ap (λ j. word row j) i) (value-known d q pool)) refl
       (omega (arith, label-small pool row at small e, d, value-small (word row (at + 2)) (word row (at + 3)))) refl
 
   pub case-next : Going pool (field.Name ∷ field.OptionalThenZero ∷ []) (case pool) 65548 row from n base left at made → 0 < left
       → length pool ≤ 65536 → {one two : ℕ} → one ≡ rightSize pool field.Name (word row at ∷ word row (at + 1) ∷ []) → 0 < one
-      → OptionalSeen 1 (word row (at + 2)) (word row (at + 3)) two → two ≤ 6
+      → OptionalKnown 1 (word row (at + 2)) (word row (at + 3)) two → two ≤ 6
       → Going pool (field.Name ∷ field.OptionalThenZero ∷ []) (case pool) 65548 row from n base (left - 1) (at + 4) (made + (one + two + 1))
   unfolding wide widths optional
   case-next k h small {one} {two} e p s few =
       let t = word row (at + 2) in
       let x = word row (at + 3) in
       let i : at + 3 ≡ at + 2 + 1 = omega arith in
-      seen-next field.Name field.OptionalThenZero pool (case-element pool) k h (label-seen pool row at e p)
-      (case-at pool row (at + 2) refl (ap (λ j. word row j) i) (case-seen t x pool (s .right) (ap (λ (m : ℕ). m + 1) (s .size ∙ go t x (eqb t 2)))))
+      known-next field.Name field.OptionalThenZero pool (case-element pool) k h (label-known pool row at e p)
+      (case-at pool row (at + 2) refl (ap (λ j. word row j) i) (case-known t x pool (s .right) (ap (λ (m : ℕ). m + 1) (s .size ∙ go t x (eqb t 2)))))
       (omega arith) (omega (arith, label-small pool row at small e)) refl
     where
-      go : (t x : ℕ) (b : Bool) → pick b 1 (1 + length (valtype t x)) ≡ length (pick b (0x00 ∷ []) (0x01 ∷ valtype t x))
+      go : (t x : ℕ) (b : Bool) → cond b 1 (1 + length (valtype t x)) ≡ length (cond b (0x00 ∷ []) (0x01 ∷ valtype t x))
       go t x true = refl
       go t x false = omega arith
 

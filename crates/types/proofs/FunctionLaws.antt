@@ -2,7 +2,7 @@
 use Prim.Native.Nat.{ℕ, _+_, _*_, _^_, _≤_, _<_}
 use native.Mathlib.Omega.{arith}
 use mathlib.Core.Path.{_≡_, refl, sym, ap, _∙_, subst}
-use mathlib.Core.Bool.{Bool, true, false}
+use mathlib.Core.Bool.{Bool, true, false, cond}
 use mathlib.Core.List.{List, [], _∷_, _++_}
 use lib.Dec.{eqb}
 use lib.ListN.{length, drop, set}
@@ -15,50 +15,51 @@ use Rattle.numbers.specs.declared.bytes.Stored.{Stored}
 use Rattle.fields.specs.declared.Answer.the-variants.{Size}
 use Rattle.fields.specs.declared.Field.the-variants as field
 use Rattle.fields.specs.declared.Found.the-variants.{Is}
-use Rattle.fields.specs.Binary.{pick, word, functype, valtype, resultlist, bytes}
-use Rattle.fields.specs.Judge.{wide, flaw}
-use Rattle.fields.specs.Row.{measuredRow}
-use Rattle.fields.specs.Run.{Wrote}
+use Rattle.fields.specs.Words.{word, wide}
+use Rattle.writing.specs.Binary.{functype, valtype, resultlist, bytes}
+use Rattle.writing.specs.Judge.{flaw}
+use Rattle.writing.specs.Row.{measuredRow}
+use Rattle.writing.specs.inside.Wrote.{Wrote}
 use Rattle.fields.specs.Shape.{widths}
 use Rattle.fields.specs.Table.{elements}
-use Rattle.fields.proofs.WroteLaws.{then, same-size, of-store, room-first, room-then}
-use Rattle.writing.specs.Seen.{Seen, Groups}
+use Rattle.writing.proofs.WroteLaws.{then, same-size, of-store, room-first, room-then}
+use Rattle.writing.specs.inside.Rows.{Known, Groups}
 use Rattle.writing.proofs.GroupLaws.{labelled-element, byte-wrote}
-use Rattle.writing.proofs.RowLaws.{result-seen, result-at, async-at, many-seen}
-use Rattle.types.specs.Seen.{OptionalSeen}
+use Rattle.writing.proofs.RowLaws.{result-known, result-at, async-at, many-known}
+use Rattle.types.specs.inside.Optional.{OptionalKnown}
 use Rattle.types.specs.Table.{labelvaltype}
-use Rattle.types.specs.Write.{functionShape, functionBytes}
+use Rattle.types.specs.inside.Function.{functionShape, functionBytes}
 
 -- ---- what is seen
 
-pub result-length : (tag x : ℕ) → length (resultlist tag x) ≡ pick (eqb tag 2) 2 (1 + length (valtype tag x))
+pub result-length : (tag x : ℕ) → length (resultlist tag x) ≡ cond (eqb tag 2) 2 (1 + length (valtype tag x))
 unfolding resultlist
 result-length tag x = go (eqb tag 2)
   where
-    go : (b : Bool) → length (pick b (0x01 ∷ 0x00 ∷ []) (0x00 ∷ valtype tag x)) ≡ pick b 2 (1 + length (valtype tag x))
+    go : (b : Bool) → length (cond b (0x01 ∷ 0x00 ∷ []) (0x00 ∷ valtype tag x)) ≡ cond b 2 (1 + length (valtype tag x))
     go true = refl
     go false = omega arith
 
 -- an O that is seen is a result, whatever the pool
-pub seen-result : {tag x r : ℕ} → OptionalSeen 2 tag x r → (pool : List ℕ) → Seen pool field.Result (tag ∷ x ∷ []) r
-seen-result {tag} {x} o pool = result-seen tag x pool (o .right) (o .size ∙ sym (result-length tag x))
+pub known-result : {tag x r : ℕ} → OptionalKnown 2 tag x r → (pool : List ℕ) → Known pool field.Result (tag ∷ x ∷ []) r
+known-result {tag} {x} o pool = result-known tag x pool (o .right) (o .size ∙ sym (result-length tag x))
 
 module _ (row pool : List ℕ) where
   abbrev N : ℕ
   N = word row 2
 
   -- the base of the parameters has the result's bytes in it
-  pub function-seen : length pool ≤ 65536 → length row ≤ 16384 → length row ≡ 5 + word row 2 * 4 → word row 1 < 2
-      → {q base r : ℕ} → OptionalSeen 2 (word row (3 + word row 2 * 4)) (word row (3 + word row 2 * 4 + 1)) q
+  pub function-known : length pool ≤ 65536 → length row ≤ 16384 → length row ≡ 5 + word row 2 * 4 → word row 1 < 2
+      → {q base r : ℕ} → OptionalKnown 2 (word row (3 + word row 2 * 4)) (word row (3 + word row 2 * 4 + 1)) q
       → base ≡ 1 + length (unsigned (word row 2)) + q
       → Groups pool (field.Name ∷ field.Value ∷ []) (labelvaltype pool) (word row 2) (drop 3 row) base r → r < 2 ^ 32
       → measuredRow (Is functionShape) row pool ≡ Size r
   unfolding wide widths flaw bytes
-  function-seen small short width a {q} {base} {r} o eb g few =
-      many-seen field.Nothing field.Nothing field.Async field.Name field.Value field.Result refl refl refl row pool
+  function-known small short width a {q} {base} {r} o eb g few =
+      many-known field.Nothing field.Nothing field.Async field.Name field.Value field.Result refl refl refl row pool
       (λ ws. labelled-element pool ws) (λ ws. refl) (λ ws. refl) small short (omega arith) (async-at pool row 1 refl a) refl
       (record { right = g .right; size = refl })
-      (result-at pool row (3 + N * 4) refl refl (seen-result o pool))
+      (result-at pool row (3 + N * 4) refl refl (known-result o pool))
       (omega (arith, g .size))
       few
 

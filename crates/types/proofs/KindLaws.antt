@@ -2,7 +2,7 @@
 use Prim.Native.Nat.{ℕ, _+_, _*_, _≤_, _<_}
 use native.Mathlib.Omega.{arith}
 use mathlib.Core.Path.{_≡_, refl, sym, ap, _∙_, subst}
-use mathlib.Core.Bool.{Bool, true, false}
+use mathlib.Core.Bool.{Bool, true, false, cond}
 use mathlib.Core.List.{List, [], _∷_, _++_, append-nil}
 use borrow.Author.Tests.{ne-eqb}
 use lib.Dec.{eqb}
@@ -16,22 +16,24 @@ use Rattle.fields.specs.declared.Found.{Found}
 use Rattle.fields.specs.declared.Found.the-variants.{Is, Not}
 use Rattle.fields.specs.declared.Refusal.the-variants.{Room}
 use Rattle.fields.specs.declared.Shape.{Shape}
-use Rattle.fields.specs.Binary.{pick, word, primvaltype, valtype, optional, resultlist, functype, representation, destructor, bytes}
-use Rattle.fields.specs.Judge.{wide}
-use Rattle.fields.specs.Row.{measuredRow, rowBytes, writeRow}
+use Rattle.fields.specs.Words.{word, wide}
+use Rattle.writing.specs.Binary.{primvaltype, valtype, optional, resultlist, functype, representation, destructor, bytes}
+use Rattle.writing.specs.Row.{measuredRow, rowBytes, writeRow}
 use Rattle.fields.specs.Shape.{repeated, widths}
 use Rattle.fields.specs.Table.{Line, shapeIn, productionIn, twoOf, elements}
-use Rattle.fields.specs.Write.{Left, left}
+use Rattle.fields.specs.Answers.{Left, left}
 use Rattle.fields.proofs.NearLaws.{first-word, second-word}
-use Rattle.fields.proofs.TableLaws.{strings}
-use Rattle.fields.proofs.WholeLaws.{accepted}
+use Rattle.writing.proofs.TableLaws.{strings}
+use Rattle.writing.proofs.WholeLaws.{accepted}
 use Rattle.types.specs.Table.{two, many, labelvaltype, table}
-use Rattle.types.specs.Write.{shapeOf, measuredType, functionShape, functionBytes}
+use Rattle.types.specs.Write.{shapeOf, measuredType}
+use Rattle.types.specs.inside.Function.{functionShape, functionBytes}
 use Rattle.types.proofs.Rows.{type-row}
-use Rattle.writing.specs.Seen.{within, Rights, Fits, Tried}
+use Rattle.writing.specs.Sizes.{within}
+use Rattle.writing.specs.inside.Rows.{Rights, Fits, Tried}
 use Rattle.writing.proofs.GroupLaws.{labelled-element}
-use Rattle.writing.proofs.RowLaws.{PairHeld, lead-held, bare-held, CountedHeld, counted-held, ManyHeld, many-held}
-use Rattle.writing.proofs.RowLaws.{within-fits, within-not, room-answer, tried-some}
+use Rattle.writing.proofs.RowLaws.{PairHeld, lead-held, bare-held, CountedHeld, counted-held, ManyHeld, many-held, within-fits, within-not, room-answer, tried-some}
+use Rattle.numbers.proofs.Impossible.{impossible}
 
 -- ---- a line of the table for each kind, and none for any other
 
@@ -365,11 +367,11 @@ Begin (l ∷ ls) pool ws = Some (l .production pool ws) × Begin ls pool ws
 
 begins-in : (ls : List Line) (pool ws : List ℕ) → Begin ls pool ws → (k : ℕ) (s : Shape) → shapeIn ls k ≡ Is s → Some (productionIn ls k pool ws)
 unfolding shapeIn productionIn
-begins-in [] pool ws a k s f = let z : _≡_ {A = ℕ} 0 1 = cc in absurd (omega arith)
+begins-in [] pool ws a k s f = impossible cc
 begins-in (l ∷ ls) pool ws a k s f = go (eqb k (l .kind)) f (begins-in ls pool ws (a .1) k s)
   where
-    go : (b : Bool) → pick b (Is (l .shape)) (shapeIn ls k) ≡ Is s → (shapeIn ls k ≡ Is s → Some (productionIn ls k pool ws))
-        → Some (pick b (l .production pool ws) (productionIn ls k pool ws))
+    go : (b : Bool) → cond b (Is (l .shape)) (shapeIn ls k) ≡ Is s → (shapeIn ls k ≡ Is s → Some (productionIn ls k pool ws))
+        → Some (cond b (l .production pool ws) (productionIn ls k pool ws))
     go true f ih = a .0
     go false f ih = ih f
 

@@ -2,7 +2,7 @@
 use Prim.Native.Nat.{ℕ, _+_, _≤_, _<_}
 use native.Mathlib.Omega.{arith}
 use mathlib.Core.Path.{_≡_, refl, _∙_, subst}
-use mathlib.Core.Bool.{Bool, true, false}
+use mathlib.Core.Bool.{Bool, true, false, cond}
 use mathlib.Core.List.{List, [], _∷_, _++_}
 use borrow.Author.Tests.{eq-eqb, ne-eqb}
 use lib.Dec.{eqb}
@@ -16,19 +16,20 @@ use Rattle.numbers.proofs.LebLaws.{size-bounds}
 use Rattle.fields.specs.declared.Answer.the-variants.{Size}
 use Rattle.fields.specs.declared.Field.the-variants as field
 use Rattle.fields.specs.declared.Found.the-variants.{Is}
-use Rattle.fields.specs.Binary.{pick, word, primvaltype, valtype, optional, resultlist, representation, destructor, bytes}
-use Rattle.fields.specs.Judge.{wide}
-use Rattle.fields.specs.Row.{measuredRow}
-use Rattle.fields.specs.Run.{Wrote}
+use Rattle.fields.specs.Words.{word, wide}
+use Rattle.writing.specs.Binary.{primvaltype, valtype, optional, resultlist, representation, destructor, bytes}
+use Rattle.writing.specs.Row.{measuredRow}
+use Rattle.writing.specs.inside.Wrote.{Wrote}
 use Rattle.fields.specs.Table.{twoOf}
-use Rattle.fields.proofs.WroteLaws.{then, then-byte, same-size, of-store}
-use Rattle.writing.specs.Seen.{rightSize, Seen}
+use Rattle.writing.proofs.WroteLaws.{then, then-byte, same-size, of-store}
+use Rattle.writing.specs.Sizes.{rightSize}
+use Rattle.writing.specs.inside.Rows.{Known}
 use Rattle.writing.proofs.RowLaws.{
-  value-seen,
+  value-known,
   value-small,
   none-right,
   some-right,
-  optional-seen,
+  optional-known,
   optional-some,
   result-some,
   destructor-absent,
@@ -40,30 +41,30 @@ use Rattle.writing.proofs.RowLaws.{
   rep-at,
   primitive-at,
   nothing-at,
-  lead-seen,
-  bare-seen,
+  lead-known,
+  bare-known,
 }
 use Rattle.writing.proofs.GroupLaws.{byte-wrote, bytes-wrote, number-wrote}
-use Rattle.types.specs.Seen.{OptionalSeen}
+use Rattle.types.specs.inside.Optional.{OptionalKnown}
 use Rattle.types.specs.Table.{two}
 
 -- ---- an O
 
 module _ (none t x : ℕ) where
-  pub absent-seen : t ≡ 2 → x ≡ 0 → OptionalSeen none t x none
-  absent-seen e z = record { right = none-right t x e z; size = simp (eq-eqb _ _ e) }
+  pub absent-known : t ≡ 2 → x ≡ 0 → OptionalKnown none t x none
+  absent-known e z = record { right = none-right t x e z; size = simp (eq-eqb _ _ e) }
 
-  pub present-seen : (t ≡ 2 → ⊥) → {r : ℕ} → r ≡ rightSize [] field.Value (t ∷ x ∷ []) → 0 < r → OptionalSeen none t x (1 + r)
+  pub present-known : (t ≡ 2 → ⊥) → {r : ℕ} → r ≡ rightSize [] field.Value (t ∷ x ∷ []) → 0 < r → OptionalKnown none t x (1 + r)
   unfolding bytes
-  present-seen n {r} e h =
-      let s : Seen [] field.Value (t ∷ x ∷ []) r = value-seen e h [] in
+  present-known n {r} e h =
+      let s : Known [] field.Value (t ∷ x ∷ []) r = value-known e h [] in
       record { right = some-right t x n [] (s .right); size = simp (ne-eqb _ _ n) (omega (arith, s .size)) }
 
-pub seen-optional : (pool : List ℕ) {t x r : ℕ} → OptionalSeen 1 t x r → Seen pool field.Optional (t ∷ x ∷ []) r
+pub known-optional : (pool : List ℕ) {t x r : ℕ} → OptionalKnown 1 t x r → Known pool field.Optional (t ∷ x ∷ []) r
 unfolding optional
-seen-optional pool {t} {x} {r} s = optional-seen t x pool (s .right) (s .size ∙ go (eqb t 2))
+known-optional pool {t} {x} {r} s = optional-known t x pool (s .right) (s .size ∙ go (eqb t 2))
   where
-    go : (b : Bool) → pick b 1 (1 + length (valtype t x)) ≡ length (pick b (0x00 ∷ []) (0x01 ∷ valtype t x))
+    go : (b : Bool) → cond b 1 (1 + length (valtype t x)) ≡ length (cond b (0x00 ∷ []) (0x01 ∷ valtype t x))
     go true = refl
     go false = omega arith
 
@@ -119,67 +120,67 @@ pub primitive-row : (row : List ℕ) → length row ≡ 2 → word row 1 < 14 �
     → measuredRow (Is (twoOf field.Nothing field.Nothing field.Primitive field.Nothing)) row pool ≡ Size 1
 unfolding wide
 primitive-row row e h pool small =
-    bare-seen field.Primitive field.Nothing row pool small (omega arith) e (primitive-at pool row 1 refl h) (nothing-at pool (drop 2 row)) refl
+    bare-known field.Primitive field.Nothing row pool small (omega arith) e (primitive-at pool row 1 refl h) (nothing-at pool (drop 2 row)) refl
     (omega arith)
 
 module _ (row : List ℕ) where
   module _ {p : ℕ} (ep : p ≡ rightSize [] field.Value (word row 1 ∷ word row 2 ∷ [])) (hp : 0 < p) where
-    value-first : (pool : List ℕ) → Seen pool field.Value (drop 1 row) p
-    value-first pool = value-at pool row 1 refl refl (value-seen ep hp pool)
+    value-first : (pool : List ℕ) → Known pool field.Value (drop 1 row) p
+    value-first pool = value-at pool row 1 refl refl (value-known ep hp pool)
 
     pub value-row : length row ≡ 3 → (lead : ℕ) (pool : List ℕ) → length pool ≤ 65536
         → measuredRow (Is (two lead field.Value field.Nothing)) row pool ≡ Size (1 + p)
     unfolding wide
     value-row e lead pool small =
-        lead-seen lead field.Value field.Nothing row pool small (omega arith) e (value-first pool) (nothing-at pool (drop 3 row)) (omega arith)
+        lead-known lead field.Value field.Nothing row pool small (omega arith) e (value-first pool) (nothing-at pool (drop 3 row)) (omega arith)
         (omega (arith, value-small (word row 1) (word row 2)))
 
     pub values-row : {q : ℕ} → q ≡ rightSize [] field.Value (word row 3 ∷ word row 4 ∷ []) → 0 < q → length row ≡ 5 → (lead : ℕ) (pool : List ℕ)
         → length pool ≤ 65536 → measuredRow (Is (two lead field.Value field.Value)) row pool ≡ Size (1 + p + q)
     unfolding wide
     values-row eq hq e lead pool small =
-        lead-seen lead field.Value field.Value row pool small (omega arith) e (value-first pool)
-        (value-at pool row 3 refl refl (value-seen eq hq pool)) refl
+        lead-known lead field.Value field.Value row pool small (omega arith) e (value-first pool)
+        (value-at pool row 3 refl refl (value-known eq hq pool)) refl
         (omega (arith, value-small (word row 1) (word row 2), value-small (word row 3) (word row 4)))
 
     pub fixed-row : {q : ℕ} → q ≡ length (unsigned (word row 3)) → length row ≡ 4 → (lead : ℕ) (pool : List ℕ) → length pool ≤ 65536
         → measuredRow (Is (two lead field.Value field.Index)) row pool ≡ Size (1 + p + q)
     unfolding wide
     fixed-row eq e lead pool small =
-        lead-seen lead field.Value field.Index row pool small (omega arith) e (value-first pool) (index-at pool row 3 refl eq) refl
+        lead-known lead field.Value field.Index row pool small (omega arith) e (value-first pool) (index-at pool row 3 refl eq) refl
         (omega (arith, value-small (word row 1) (word row 2), size-bounds 128 (word row 3)))
 
   pub index-row : {p : ℕ} → p ≡ length (unsigned (word row 1)) → length row ≡ 2 → (lead : ℕ) (pool : List ℕ) → length pool ≤ 65536
       → measuredRow (Is (two lead field.Index field.Nothing)) row pool ≡ Size (1 + p)
   unfolding wide
   index-row ep e lead pool small =
-      lead-seen lead field.Index field.Nothing row pool small (omega arith) e (index-at pool row 1 refl ep) (nothing-at pool (drop 2 row))
+      lead-known lead field.Index field.Nothing row pool small (omega arith) e (index-at pool row 1 refl ep) (nothing-at pool (drop 2 row))
       (omega arith) (omega (arith, size-bounds 128 (word row 1)))
 
-  module _ {p : ℕ} (sp : OptionalSeen 1 (word row 1) (word row 2) p) (fp : p ≤ 6) where
-    optional-first : (pool : List ℕ) → Seen pool field.Optional (drop 1 row) p
-    optional-first pool = optional-at pool row 1 refl refl (seen-optional pool sp)
+  module _ {p : ℕ} (sp : OptionalKnown 1 (word row 1) (word row 2) p) (fp : p ≤ 6) where
+    optional-first : (pool : List ℕ) → Known pool field.Optional (drop 1 row) p
+    optional-first pool = optional-at pool row 1 refl refl (known-optional pool sp)
 
     pub optional-row : length row ≡ 3 → (lead : ℕ) (pool : List ℕ) → length pool ≤ 65536
         → measuredRow (Is (two lead field.Optional field.Nothing)) row pool ≡ Size (1 + p)
     unfolding wide
     optional-row e lead pool small =
-        lead-seen lead field.Optional field.Nothing row pool small (omega arith) e (optional-first pool) (nothing-at pool (drop 3 row))
+        lead-known lead field.Optional field.Nothing row pool small (omega arith) e (optional-first pool) (nothing-at pool (drop 3 row))
         (omega arith) (omega arith)
 
-    pub optionals-row : {q : ℕ} → OptionalSeen 1 (word row 3) (word row 4) q → q ≤ 6 → length row ≡ 5 → (lead : ℕ) (pool : List ℕ)
+    pub optionals-row : {q : ℕ} → OptionalKnown 1 (word row 3) (word row 4) q → q ≤ 6 → length row ≡ 5 → (lead : ℕ) (pool : List ℕ)
         → length pool ≤ 65536 → measuredRow (Is (two lead field.Optional field.Optional)) row pool ≡ Size (1 + p + q)
     unfolding wide
     optionals-row sq fq e lead pool small =
-        lead-seen lead field.Optional field.Optional row pool small (omega arith) e (optional-first pool)
-        (optional-at pool row 3 refl refl (seen-optional pool sq)) refl (omega arith)
+        lead-known lead field.Optional field.Optional row pool small (omega arith) e (optional-first pool)
+        (optional-at pool row 3 refl refl (known-optional pool sq)) refl (omega arith)
 
   module _ (e : length row ≡ 4) (h : word row 1 < 2) where
-    resource-row : {q : ℕ} (pool : List ℕ) → Seen pool field.OptionalIndex (word row 2 ∷ word row 3 ∷ []) q → q ≤ 6 → {r : ℕ} → r ≡ 2 + q
+    resource-row : {q : ℕ} (pool : List ℕ) → Known pool field.OptionalIndex (word row 2 ∷ word row 3 ∷ []) q → q ≤ 6 → {r : ℕ} → r ≡ 2 + q
         → (lead : ℕ) → length pool ≤ 65536 → measuredRow (Is (two lead field.Rep field.OptionalIndex)) row pool ≡ Size r
     unfolding wide
     resource-row pool s few er lead small =
-        lead-seen lead field.Rep field.OptionalIndex row pool small (omega arith) e (rep-at pool row 1 refl h)
+        lead-known lead field.Rep field.OptionalIndex row pool small (omega arith) e (rep-at pool row 1 refl h)
         (destructor-at pool row 2 refl refl s) (omega arith) (omega arith)
 
     pub resource-absent : word row 2 ≡ 0 → word row 3 ≡ 0 → (lead : ℕ) (pool : List ℕ) → length pool ≤ 65536

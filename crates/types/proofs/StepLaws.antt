@@ -2,12 +2,12 @@
 use Prim.Native.Nat.{ℕ, _+_, _*_, _^_, _≤_, _<_}
 use native.Mathlib.Omega.{arith}
 use mathlib.Core.Path.{_≡_, refl, sym, ap, _∙_, subst}
-use mathlib.Core.Bool.{Bool, true, false}
+use mathlib.Core.Bool.{Bool, true, false, cond}
 use mathlib.Core.List.{List, [], _∷_, _++_, append-nil}
 use borrow.Author.Tests.{leb-false, lt-leb, le-leb, lt-ltb, le-ltb, eq-eqb}
 use lib.Dec.{eqb}
 use lib.ListN.{length, drop, set}
-use lib.Seq.{sets, drop-drop}
+use lib.Seq.{sets}
 use Rattle.numbers.specs.Bytes as storing
 use Rattle.numbers.specs.Bytes.{store}
 use Rattle.numbers.specs.Leb.{unsigned}
@@ -25,26 +25,33 @@ use Rattle.fields.specs.declared.Leaf.the-variants.{Fine, Bad}
 use Rattle.fields.specs.declared.Refusal.{Refusal}
 use Rattle.fields.specs.declared.Refusal.the-variants as refusal
 use Rattle.fields.specs.declared.Shape.{Shape}
-use Rattle.fields.specs.Binary.{pick, word, functype, valtype, resultlist, bytes}
-use Rattle.fields.specs.Judge.{wide, flaw, judge}
-use Rattle.fields.specs.Row.{measuredRow, rowBytes}
-use Rattle.fields.specs.Run.{along, Wrote}
-use Rattle.fields.specs.Shape.{opening, group, closing, repeated, seq, widths, rowWidth}
+use Rattle.fields.specs.Words.{word, wide}
+use Rattle.writing.specs.Binary.{functype, valtype, resultlist, bytes}
+use Rattle.writing.specs.Judge.{flaw, judge}
+use Rattle.writing.specs.Row.{measuredRow, rowBytes}
+use Rattle.fields.specs.inside.Run.{along}
+use Rattle.fields.specs.inside.Stages.{later}
+use Rattle.writing.specs.inside.Wrote.{Wrote}
+use Rattle.fields.specs.Shape.{opening, group, repeated, seq, widths, rowWidth}
 use Rattle.fields.specs.Table.{elements}
 use Rattle.fields.specs.Walk.{next, walk, outs}
-use Rattle.fields.specs.Write.{left, refuse, judged, written, sized, measured, stored, writeShape}
-use Rattle.fields.proofs.AnswerLaws.{Sized, measured-sized}
-use Rattle.fields.proofs.PutLaws.{allFields, judged-along}
-use Rattle.fields.proofs.TableLaws.{strings, written-right}
-use Rattle.fields.proofs.WholeLaws.{Accepted, accepted, sized-accepted, size-is-length, never-too-big}
-use Rattle.fields.proofs.WroteLaws.{nothing, then, same-size, of-store, room-first, room-then}
-use Rattle.writing.specs.Seen.{within, Rights, Groups}
+use Rattle.fields.specs.Answers.{left, refuse}
+use Rattle.writing.specs.Write.{judged, written, sized, measured, stored, writeShape}
+use Rattle.writing.proofs.AnswerLaws.{Sized, measured-sized}
+use Rattle.writing.proofs.PutLaws.{allFields, judged-along}
+use Rattle.writing.proofs.TableLaws.{strings, written-right}
+use Rattle.writing.proofs.WholeLaws.{Accepted, accepted, sized-accepted, size-is-length, never-too-big}
+use Rattle.writing.proofs.WroteLaws.{nothing, then, same-size, of-store, room-first, room-then}
+use Rattle.writing.specs.Sizes.{within}
+use Rattle.writing.specs.inside.Rows.{Rights, Groups}
 use Rattle.writing.proofs.GroupLaws.{word-at, labelled-element, byte-wrote}
-use Rattle.writing.proofs.RowLaws.{nothing-at, row-held, bare-seen, many-seen, many-held, ManyHeld}
-use Rattle.types.specs.Seen.{OptionalSeen}
+use Rattle.writing.proofs.RowLaws.{nothing-at, row-held, bare-known, many-known, many-held, ManyHeld}
+use Rattle.types.specs.inside.Optional.{OptionalKnown}
 use Rattle.types.specs.Table.{labelvaltype}
-use Rattle.types.specs.Write.{asyncShape, paramsShape, paramsLead, resultShape}
-use Rattle.types.proofs.FunctionLaws.{result-length, seen-result}
+use Rattle.types.specs.Write.{asyncShape, paramsShape, resultShape}
+use Rattle.types.specs.inside.Function.{paramsLead}
+use Rattle.types.proofs.FunctionLaws.{result-length, known-result}
+use Rattle.numbers.proofs.Impossible.{impossible}
 
 -- ---- room
 
@@ -97,24 +104,18 @@ module _ (s : Shape) (pool words : List ℕ) where
   abbrev W : ℕ
   W = widths (opening s)
 
-  -- the count, and the words behind the opening
+  -- the count behind the opening
   count-moved : word (0 ∷ words) (1 + W) ≡ word words (0 + W)
   count-moved = let p : W ≡ 0 + W = omega arith in word-at (0 ∷ words) 1 W ∙ ap (λ k. word words k) p
 
-  words-moved : drop (1 + W) (0 ∷ words) ≡ drop (0 + W) words
-  words-moved = let p : W ≡ 0 + W = omega arith in sym (drop-drop W 1 (0 ∷ words)) ∙ ap (λ k. drop k words) p
-
-  abbrev behind : ℕ → List Field
-  behind n = pick (s .counted) (field.Index ∷ (repeated n (group s) ++ closing s)) (closing s)
-
   width-moved : rowWidth s (0 ∷ words) 1 ≡ 1 + rowWidth s words 0
   unfolding rowWidth
-  width-moved = omega (arith, ap (λ n. pick (s .counted) (1 + n * widths (group s)) 0) count-moved)
+  width-moved = omega (arith, ap (λ n. cond (s .counted) (1 + n * widths (group s)) 0) count-moved)
 
   judged-moved : judged s pool (0 ∷ words) 1 ≡ moved (judged s pool words 0)
   judged-moved =
       judged-along s pool (0 ∷ words) 1
-      ∙ ap (λ n. along (judge pool) (opening s ++ behind n) words 1 0) count-moved
+      ∙ ap (λ n. along (judge pool) (opening s ++ later s n) words 1 0) count-moved
       ∙ along-moved pool (allFields s words 0) words 0 0
       ∙ ap moved (sym (judged-along s pool words 0))
 
@@ -147,8 +148,7 @@ module _ (s : Shape) (pool words : List ℕ) where
             simp (le-ltb _ _ short, le-ltb _ _ (k .small), eq-eqb _ _ width, p, le-ltb _ _ small) (ap Size same)
         go (Bad w j) p =
             let r : Bad w (1 + j) ≡ Fine (k .end) n = ap moved (sym p) ∙ sym judged-moved ∙ k .judges in
-            let z : _≡_ {A = ℕ} 0 1 = cc in
-            absurd (omega arith)
+            impossible cc
 
     -- and the other way, with the same bytes
     pub step-row : Sized s words 0 pool n → length words < 16384 → n < 2 ^ 32
@@ -159,9 +159,7 @@ module _ (s : Shape) (pool words : List ℕ) where
           (record { width = omega (arith, k .width, width-moved); short = omega arith; small = k .small; end = 1 + k .end; judges = judges })
           few,
       written-right s pool words 0 (k .end) n (k .judges)
-          ∙ (λ i. strings pool (opening s) words
-          ++ pick (s .counted) (strings pool (field.Index ∷ (repeated (sym count-moved i) (group s) ++ closing s)) (sym words-moved i))
-          (strings pool (closing s) (sym words-moved i)))
+          ∙ ap (λ n. strings pool (opening s ++ later s n) words) (sym count-moved)
           ∙ sym (written-right s pool (0 ∷ words) 1 (1 + k .end) n judges),
     )
       where
@@ -175,7 +173,7 @@ paramsBytes first words pool =
     paramsLead first ++ (unsigned (word words 0) ++ elements (word words 0) 4 (labelvaltype pool) (drop 1 words))
 
 abbrev L : Bool → Field
-L first = pick first (field.Fixed 0x40) field.Nothing
+L first = cond first (field.Fixed 0x40) field.Nothing
 
 lead-wide : (first : Bool) → wide (L first) ≡ 0
 unfolding wide
@@ -200,14 +198,14 @@ pub record ParamsHeld (first : Bool) (words pool : List ℕ) (n : ℕ) : Type 0 
   pub made : written (paramsShape first) pool words 0 ≡ paramsBytes first words pool
 
 module _ (first : Bool) (words pool : List ℕ) where
-  pub params-seen : length pool ≤ 65536 → length words ≤ 16384 → length words ≡ 1 + word words 0 * 4
+  pub params-known : length pool ≤ 65536 → length words ≤ 16384 → length words ≡ 1 + word words 0 * 4
       → {base r : ℕ} → base ≡ length (paramsLead first) + length (unsigned (word words 0))
       → Groups pool (field.Name ∷ field.Value ∷ []) (labelvaltype pool) (word words 0) (drop 1 words) base r → r < 2 ^ 32
       → measured (paramsShape first) words 0 pool ≡ Size r
   unfolding wide widths flaw bytes
-  params-seen small short width eb g few =
+  params-known small short width eb g few =
       row-step (paramsShape first) pool words
-      (many-seen (L first) field.Nothing field.Nothing field.Name field.Value field.Nothing (lead-wide first) refl refl (0 ∷ words) pool
+      (many-known (L first) field.Nothing field.Nothing field.Name field.Value field.Nothing (lead-wide first) refl refl (0 ∷ words) pool
       (λ ws. labelled-element pool ws) (lead-right first pool) (λ ws. refl) small (omega arith) (omega arith) (nothing-at pool words)
       (omega (arith, ap length (lead-bytes first pool words))) g (nothing-at pool (drop (2 + word words 0 * 4) (0 ∷ words))) (omega arith) few)
 
@@ -298,11 +296,11 @@ pub result-written : (tag x : ℕ) → written resultShape [] (tag ∷ x ∷ [])
 unfolding outs seq bytes judge flaw wide
 result-written tag x = append-nil (resultlist tag x)
 
-pub result-measured : {tag x r : ℕ} → OptionalSeen 2 tag x r → r ≤ 6 → measured resultShape (tag ∷ x ∷ []) 0 [] ≡ Size r
+pub result-measured : {tag x r : ℕ} → OptionalKnown 2 tag x r → r ≤ 6 → measured resultShape (tag ∷ x ∷ []) 0 [] ≡ Size r
 unfolding wide
 result-measured {tag} {x} {r} o small =
     row-step resultShape [] (tag ∷ x ∷ [])
-    (bare-seen field.Result field.Nothing (0 ∷ tag ∷ x ∷ []) [] (omega arith) (omega arith) refl (seen-result o []) (nothing-at [] [])
+    (bare-known field.Result field.Nothing (0 ∷ tag ∷ x ∷ []) [] (omega arith) (omega arith) refl (known-result o []) (nothing-at [] [])
     (omega arith) (omega arith))
 
 -- what has a size has the bytes of a result, one at least
@@ -312,7 +310,7 @@ result-held tag x {n} e = (size, omega (arith, size, some))
     size : n ≡ length (resultlist tag x)
     size = size-is-length (measured-sized resultShape (tag ∷ x ∷ []) 0 [] refl n e) ∙ ap length (result-written tag x)
 
-    positive : (b : Bool) → 0 < pick b 2 (1 + length (valtype tag x))
+    positive : (b : Bool) → 0 < cond b 2 (1 + length (valtype tag x))
     positive true = omega arith
     positive false = omega arith
 

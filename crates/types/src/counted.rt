@@ -14,17 +14,19 @@ ghost use lib.Seq.{sets};
 ghost use Rattle.numbers.specs.Leb.{unsigned};
 ghost use Rattle.fields.specs.declared.Answer.the-variants.{Size};
 ghost use Rattle.fields.specs.declared.Found.the-variants.{Is};
-ghost use Rattle.fields.specs.Binary.{word, valtype};
-ghost use Rattle.fields.specs.Row.{measuredRow};
-ghost use Rattle.fields.specs.Run.{Wrote};
+ghost use Rattle.fields.specs.Words.{word};
+ghost use Rattle.writing.specs.Binary.{valtype};
+ghost use Rattle.writing.specs.Row.{measuredRow};
+ghost use Rattle.writing.specs.inside.Wrote.{Wrote};
 ghost use Rattle.fields.specs.Shape.{repeated};
 ghost use Rattle.fields.specs.Table.{elements};
 ghost use Rattle.types.specs.Table.{label, labelvaltype, case, many};
-ghost use Rattle.writing.specs.Seen.{Rights, Groups};
+ghost use Rattle.writing.specs.inside.Rows.{Rights, Groups};
+ghost use Rattle.fields.specs.Limits.{rowWords, poolBytes};
 
 // n labels, whose words stand from `from` on, with `base` bytes before them.
 fn labels_size(row: &[u32], from: usize, n: usize, pool: &[u8], base: usize) -> usize
-    requires { ⌜ (length (now pool) ≤ 65536) × (length (now row) ≤ 16384) ⌝ }
+    requires { ⌜ (length (now pool) ≤ poolBytes) × (length (now row) ≤ rowWords) ⌝ }
     requires { ⌜ (from + n * 2 ≤ length (now row)) × (base ≤ 16) ⌝ }
     ensures { λ r. ⌜ (0 < r → Groups (now (pool .entry)) (Field.Name ∷ Field.Nothing ∷ []) (label (now (pool .entry))) n (drop from (now (row .entry))) base r) ⌝ }
     ensures { λ r. ⌜ r < 2 ^ 32 ⌝ }
@@ -62,7 +64,7 @@ fn put_labels(row: &[u32], from: usize, n: usize, pool: &[u8], out: &mut [u8], b
 
 // n V.
 fn values_size(row: &[u32], from: usize, n: usize, base: usize) -> usize
-    requires { ⌜ length (now row) ≤ 16384 ⌝ }
+    requires { ⌜ length (now row) ≤ rowWords ⌝ }
     requires { ⌜ (from + n * 2 ≤ length (now row)) × (base ≤ 16) ⌝ }
     ensures { λ r. ⌜ (0 < r → (pool : List ℕ) → Groups pool (Field.Value ∷ Field.Nothing ∷ []) (λ ws. valtype (word ws 0) (word ws 1)) n (drop from (now (row .entry))) base r) ⌝ }
     ensures { λ r. ⌜ r < 2 ^ 32 ⌝ }
@@ -99,7 +101,7 @@ fn put_values(row: &[u32], from: usize, n: usize, out: &mut [u8], base: usize)
 
 // n fields of a record, or parameters: a label and a V.
 pub fn fields_size(row: &[u32], from: usize, n: usize, pool: &[u8], base: usize) -> usize
-    requires { ⌜ (length (now pool) ≤ 65536) × (length (now row) ≤ 16384) ⌝ }
+    requires { ⌜ (length (now pool) ≤ poolBytes) × (length (now row) ≤ rowWords) ⌝ }
     requires { ⌜ (from + n * 4 ≤ length (now row)) × (base ≤ 16) ⌝ }
     ensures { λ r. ⌜ (0 < r → Groups (now (pool .entry)) (Field.Name ∷ Field.Value ∷ []) (labelvaltype (now (pool .entry))) n (drop from (now (row .entry))) base r) ⌝ }
     ensures { λ r. ⌜ r < 2 ^ 32 ⌝ }
@@ -150,7 +152,7 @@ pub fn put_fields(
 
 // n cases of a variant: a label, an O and 00.
 fn cases_size(row: &[u32], from: usize, n: usize, pool: &[u8], base: usize) -> usize
-    requires { ⌜ (length (now pool) ≤ 65536) × (length (now row) ≤ 16384) ⌝ }
+    requires { ⌜ (length (now pool) ≤ poolBytes) × (length (now row) ≤ rowWords) ⌝ }
     requires { ⌜ (from + n * 4 ≤ length (now row)) × (base ≤ 16) ⌝ }
     ensures { λ r. ⌜ (0 < r → Groups (now (pool .entry)) (Field.Name ∷ Field.OptionalThenZero ∷ []) (case (now (pool .entry))) n (drop from (now (row .entry))) base r) ⌝ }
     ensures { λ r. ⌜ r < 2 ^ 32 ⌝ }
@@ -195,7 +197,7 @@ fn put_cases(row: &[u32], from: usize, n: usize, pool: &[u8], out: &mut [u8], ba
 
 // record
 pub fn record_size(row: &[u32], pool: &[u8]) -> usize
-    requires { ⌜ (length (now pool) ≤ 65536) × (length (now row) ≤ 16384) ⌝ }
+    requires { ⌜ (length (now pool) ≤ poolBytes) × (length (now row) ≤ rowWords) ⌝ }
     ensures { λ r. ⌜ (0 < r → measuredRow (Is (many 0x72 Field.Name Field.Value)) (now (row .entry)) (now (pool .entry)) ≡ Size r) ⌝ }
 {
     if row.len() < 2 {
@@ -221,7 +223,7 @@ pub fn put_record(row: &[u32], pool: &[u8], out: &mut [u8], to: usize)
 
 // variant
 pub fn variant_size(row: &[u32], pool: &[u8]) -> usize
-    requires { ⌜ (length (now pool) ≤ 65536) × (length (now row) ≤ 16384) ⌝ }
+    requires { ⌜ (length (now pool) ≤ poolBytes) × (length (now row) ≤ rowWords) ⌝ }
     ensures { λ r. ⌜ (0 < r → measuredRow (Is (many 0x71 Field.Name Field.OptionalThenZero)) (now (row .entry)) (now (pool .entry)) ≡ Size r) ⌝ }
 {
     if row.len() < 2 {
@@ -247,8 +249,8 @@ pub fn put_variant(row: &[u32], pool: &[u8], out: &mut [u8], to: usize)
 
 // tuple
 pub fn tuple_size(row: &[u32]) -> usize
-    requires { ⌜ length (now row) ≤ 16384 ⌝ }
-    ensures { λ r. ⌜ (0 < r → (pool : List ℕ) → length pool ≤ 65536 → measuredRow (Is (many 0x6f Field.Value Field.Nothing)) (now (row .entry)) pool ≡ Size r) ⌝ }
+    requires { ⌜ length (now row) ≤ rowWords ⌝ }
+    ensures { λ r. ⌜ (0 < r → (pool : List ℕ) → length pool ≤ poolBytes → measuredRow (Is (many 0x6f Field.Value Field.Nothing)) (now (row .entry)) pool ≡ Size r) ⌝ }
 {
     if row.len() < 2 {
         return 0;
@@ -272,7 +274,7 @@ pub fn put_tuple(row: &[u32], out: &mut [u8], to: usize)
 
 // flags, enum: labels.
 pub fn labels_row_size(row: &[u32], pool: &[u8]) -> usize
-    requires { ⌜ (length (now pool) ≤ 65536) × (length (now row) ≤ 16384) ⌝ }
+    requires { ⌜ (length (now pool) ≤ poolBytes) × (length (now row) ≤ rowWords) ⌝ }
     ensures { λ r. ⌜ (0 < r → (lead : ℕ) → measuredRow (Is (many lead Field.Name Field.Nothing)) (now (row .entry)) (now (pool .entry)) ≡ Size r) ⌝ }
 {
     if row.len() < 2 {

@@ -13,11 +13,13 @@ ghost use lib.ListN.{length, drop};
 ghost use lib.Seq.{sets};
 ghost use Rattle.fields.specs.declared.Answer.the-variants.{Size};
 ghost use Rattle.fields.specs.declared.Found.the-variants.{Is};
-ghost use Rattle.fields.specs.Binary.{word, functype};
-ghost use Rattle.fields.specs.Row.{measuredRow};
+ghost use Rattle.fields.specs.Words.{word};
+ghost use Rattle.writing.specs.Binary.{functype};
+ghost use Rattle.writing.specs.Row.{measuredRow};
 ghost use Rattle.fields.specs.Shape.{repeated};
-ghost use Rattle.types.specs.Write.{functionShape, functionBytes};
-ghost use Rattle.writing.specs.Seen.{Rights};
+ghost use Rattle.types.specs.inside.Function.{functionShape, functionBytes};
+ghost use Rattle.writing.specs.inside.Rows.{Rights};
+ghost use Rattle.fields.specs.Limits.{rowWords, poolBytes};
 
 pub fn async_byte(a: u32) -> u8
     ensures { λ r. ⌜ r ≡ functype a ⌝ }
@@ -27,7 +29,7 @@ pub fn async_byte(a: u32) -> u8
 
 // function: async or not, parameters and a result.
 pub fn function_size(row: &[u32], pool: &[u8]) -> usize
-    requires { ⌜ (length (now pool) ≤ 65536) × (length (now row) ≤ 16384) ⌝ }
+    requires { ⌜ (length (now pool) ≤ poolBytes) × (length (now row) ≤ rowWords) ⌝ }
     ensures { λ r. ⌜ (0 < r → measuredRow (Is functionShape) (now (row .entry)) (now (pool .entry)) ≡ Size r) ⌝ }
 {
     if row.len() < 5 {

@@ -1,16 +1,15 @@
 // An O in straight code: its size, 0 where it is not right, and its bytes.
 use numbers::stored_size;
-ghost use mathlib.Core.Path.{_≡_};
 ghost use Prim.Native.Nat.{_<_, _≤_, _+_};
 ghost use lib.ListN.{length};
-ghost use Rattle.fields.specs.Binary.{optional, resultlist};
-ghost use Rattle.fields.specs.Run.{Wrote};
-ghost use Rattle.types.specs.Seen.{OptionalSeen};
+ghost use Rattle.writing.specs.Binary.{optional, resultlist};
+ghost use Rattle.writing.specs.inside.Wrote.{Wrote};
+ghost use Rattle.types.specs.inside.Optional.{OptionalKnown};
 
 // How many bytes an O has, `none` where it is absent.
 pub fn optional_size(none: usize, tag: u32, x: u32) -> usize
     requires { ⌜ none ≤ 2 ⌝ }
-    ensures { λ r. ⌜ (0 < r → OptionalSeen none tag x r) ⌝ }
+    ensures { λ r. ⌜ (0 < r → OptionalKnown none tag x r) ⌝ }
     ensures { λ r. ⌜ r ≤ 6 ⌝ }
 {
     if tag == 2 {

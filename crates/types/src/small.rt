@@ -14,14 +14,16 @@ ghost use lib.Seq.{sets};
 ghost use Rattle.numbers.specs.Leb.{unsigned};
 ghost use Rattle.fields.specs.declared.Answer.the-variants.{Size};
 ghost use Rattle.fields.specs.declared.Found.the-variants.{Is};
-ghost use Rattle.fields.specs.Binary.{word, primvaltype, valtype, optional};
-ghost use Rattle.fields.specs.Row.{measuredRow};
+ghost use Rattle.fields.specs.Words.{word};
+ghost use Rattle.writing.specs.Binary.{primvaltype, valtype, optional};
+ghost use Rattle.writing.specs.Row.{measuredRow};
 ghost use Rattle.fields.specs.Table.{twoOf};
 ghost use Rattle.types.specs.Table.{two};
+ghost use Rattle.fields.specs.Limits.{poolBytes};
 
 // primvaltype
 pub fn primitive_size(row: &[u32]) -> usize
-    ensures { λ r. ⌜ (0 < r → (pool : List ℕ) → length pool ≤ 65536 → measuredRow (Is (twoOf Field.Nothing Field.Nothing Field.Primitive Field.Nothing)) (now (row .entry)) pool ≡ Size r) ⌝ }
+    ensures { λ r. ⌜ (0 < r → (pool : List ℕ) → length pool ≤ poolBytes → measuredRow (Is (twoOf Field.Nothing Field.Nothing Field.Primitive Field.Nothing)) (now (row .entry)) pool ≡ Size r) ⌝ }
 {
     if row.len() == 2 {
         if row[1] < 14 {
@@ -40,7 +42,7 @@ pub fn put_primitive(row: &[u32], out: &mut [u8], to: usize)
 
 // list, option: a V.
 pub fn value_row_size(row: &[u32]) -> usize
-    ensures { λ r. ⌜ (0 < r → (lead : ℕ) (pool : List ℕ) → length pool ≤ 65536 → measuredRow (Is (two lead Field.Value Field.Nothing)) (now (row .entry)) pool ≡ Size r) ⌝ }
+    ensures { λ r. ⌜ (0 < r → (lead : ℕ) (pool : List ℕ) → length pool ≤ poolBytes → measuredRow (Is (two lead Field.Value Field.Nothing)) (now (row .entry)) pool ≡ Size r) ⌝ }
 {
     if row.len() == 3 {
         let one = value_size(row[1], row[2]);
@@ -62,7 +64,7 @@ pub fn put_value_row(lead: u8, row: &[u32], out: &mut [u8], to: usize)
 
 // map: two V.
 pub fn values_row_size(row: &[u32]) -> usize
-    ensures { λ r. ⌜ (0 < r → (lead : ℕ) (pool : List ℕ) → length pool ≤ 65536 → measuredRow (Is (two lead Field.Value Field.Value)) (now (row .entry)) pool ≡ Size r) ⌝ }
+    ensures { λ r. ⌜ (0 < r → (lead : ℕ) (pool : List ℕ) → length pool ≤ poolBytes → measuredRow (Is (two lead Field.Value Field.Value)) (now (row .entry)) pool ≡ Size r) ⌝ }
 {
     if row.len() == 5 {
         let one = value_size(row[1], row[2]);
@@ -88,7 +90,7 @@ pub fn put_values_row(lead: u8, row: &[u32], out: &mut [u8], to: usize)
 
 // list of fixed length: a V and a length.
 pub fn fixed_row_size(row: &[u32]) -> usize
-    ensures { λ r. ⌜ (0 < r → (lead : ℕ) (pool : List ℕ) → length pool ≤ 65536 → measuredRow (Is (two lead Field.Value Field.Index)) (now (row .entry)) pool ≡ Size r) ⌝ }
+    ensures { λ r. ⌜ (0 < r → (lead : ℕ) (pool : List ℕ) → length pool ≤ poolBytes → measuredRow (Is (two lead Field.Value Field.Index)) (now (row .entry)) pool ≡ Size r) ⌝ }
 {
     if row.len() == 4 {
         let one = value_size(row[1], row[2]);
@@ -111,7 +113,7 @@ pub fn put_fixed_row(lead: u8, row: &[u32], out: &mut [u8], to: usize)
 
 // result: two O.
 pub fn optionals_row_size(row: &[u32]) -> usize
-    ensures { λ r. ⌜ (0 < r → (lead : ℕ) (pool : List ℕ) → length pool ≤ 65536 → measuredRow (Is (two lead Field.Optional Field.Optional)) (now (row .entry)) pool ≡ Size r) ⌝ }
+    ensures { λ r. ⌜ (0 < r → (lead : ℕ) (pool : List ℕ) → length pool ≤ poolBytes → measuredRow (Is (two lead Field.Optional Field.Optional)) (now (row .entry)) pool ≡ Size r) ⌝ }
 {
     if row.len() == 5 {
         let one = optional_size(1, row[1], row[2]);
@@ -137,7 +139,7 @@ pub fn put_optionals_row(lead: u8, row: &[u32], out: &mut [u8], to: usize)
 
 // own, borrow: an index.
 pub fn index_row_size(row: &[u32]) -> usize
-    ensures { λ r. ⌜ (0 < r → (lead : ℕ) (pool : List ℕ) → length pool ≤ 65536 → measuredRow (Is (two lead Field.Index Field.Nothing)) (now (row .entry)) pool ≡ Size r) ⌝ }
+    ensures { λ r. ⌜ (0 < r → (lead : ℕ) (pool : List ℕ) → length pool ≤ poolBytes → measuredRow (Is (two lead Field.Index Field.Nothing)) (now (row .entry)) pool ≡ Size r) ⌝ }
 {
     if row.len() == 2 {
         return 1 + unsigned_size(row[1]);
@@ -156,7 +158,7 @@ pub fn put_index_row(lead: u8, row: &[u32], out: &mut [u8], to: usize)
 
 // future, stream: an O.
 pub fn optional_row_size(row: &[u32]) -> usize
-    ensures { λ r. ⌜ (0 < r → (lead : ℕ) (pool : List ℕ) → length pool ≤ 65536 → measuredRow (Is (two lead Field.Optional Field.Nothing)) (now (row .entry)) pool ≡ Size r) ⌝ }
+    ensures { λ r. ⌜ (0 < r → (lead : ℕ) (pool : List ℕ) → length pool ≤ poolBytes → measuredRow (Is (two lead Field.Optional Field.Nothing)) (now (row .entry)) pool ≡ Size r) ⌝ }
 {
     if row.len() == 3 {
         let one = optional_size(1, row[1], row[2]);

@@ -6,6 +6,8 @@ use crate::optional::optional_size;
 use crate::optional::put_result;
 use fields::Answer;
 use fields::Field;
+use fields::POOL_BYTES;
+use fields::ROW_WORDS;
 use fields::Refusal;
 use fields::Shape;
 use numbers::stored_size;
@@ -16,13 +18,15 @@ ghost use mathlib.Core.Path.{_≡_};
 ghost use lib.ListN.{length, drop};
 ghost use lib.Seq.{sets};
 ghost use Rattle.numbers.specs.Leb.{unsigned};
-ghost use Rattle.fields.specs.Binary.{word};
+ghost use Rattle.fields.specs.Words.{word};
 ghost use Rattle.fields.specs.Shape.{repeated};
 ghost use Rattle.fields.specs.Table.{elements};
-ghost use Rattle.fields.specs.Write.{left, measured, writeShape};
+ghost use Rattle.fields.specs.Answers.{left};
+ghost use Rattle.writing.specs.Write.{measured, writeShape};
 ghost use Rattle.types.specs.Table.{labelvaltype};
-ghost use Rattle.types.specs.Write.{asyncShape, paramsShape, paramsLead, resultShape};
-ghost use Rattle.writing.specs.Seen.{Rights};
+ghost use Rattle.types.specs.Write.{asyncShape, paramsShape, resultShape};
+ghost use Rattle.types.specs.inside.Function.{paramsLead};
+ghost use Rattle.writing.specs.inside.Rows.{Rights};
 
 // The first byte: 40, or 43 where a is 1.
 pub fn write_async(a: u32, out: &mut [u8], at: usize) -> Answer
@@ -62,10 +66,10 @@ fn params_shape(first: bool) -> Shape
 fn params_size(first: bool, words: &[u32], pool: &[u8]) -> usize
     ensures { λ r. ⌜ (0 < r → measured (paramsShape first) (now (words .entry)) 0 (now (pool .entry)) ≡ Answer.Size r) ⌝ }
 {
-    if 65536 < pool.len() {
+    if POOL_BYTES < pool.len() {
         return 0;
     }
-    if 16384 < words.len() {
+    if ROW_WORDS < words.len() {
         return 0;
     }
     if 0 < words.len() {
@@ -100,7 +104,7 @@ fn measure_params(first: bool, words: &[u32], pool: &[u8]) -> Answer
     if 0 < size {
         return Answer::Size(size);
     }
-    fields::measure_shape(params_shape(first), words, 0, pool)
+    writing::measure_shape(params_shape(first), words, 0, pool)
 }
 
 // A count and as many parameters, behind 40 where they are the first of the function.
@@ -143,7 +147,7 @@ fn measure_result(tag: u32, x: u32) -> Answer
     }
     let words = [tag, x];
     let pool = [0u8; 1];
-    fields::measure_shape(result_shape(), &words, 0, &pool[..0])
+    writing::measure_shape(result_shape(), &words, 0, &pool[..0])
 }
 
 // The result, an O.

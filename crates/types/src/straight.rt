@@ -3,25 +3,27 @@ use crate::counted;
 use crate::function;
 use crate::resource;
 use crate::small;
+use fields::POOL_BYTES;
+use fields::ROW_WORDS;
 use writing::fits;
 ghost use Prim.Native.Nat.{_<_};
 ghost use mathlib.Core.Path.{_≡_};
 ghost use lib.ListN.{length};
 ghost use lib.Seq.{sets};
 ghost use Rattle.fields.specs.declared.Answer.the-variants.{Size};
-ghost use Rattle.fields.specs.Binary.{word};
-ghost use Rattle.fields.specs.Row.{measuredRow, rowBytes};
+ghost use Rattle.fields.specs.Words.{word};
+ghost use Rattle.writing.specs.Row.{measuredRow, rowBytes};
 ghost use Rattle.types.specs.Write.{shapeOf};
-ghost use Rattle.writing.specs.Seen.{Fits, Tried};
+ghost use Rattle.writing.specs.inside.Rows.{Fits, Tried};
 
 // How many bytes a row makes, 0 where not all of it is seen to be right.
 pub fn row_size(row: &[u32], pool: &[u8]) -> usize
     ensures { λ r. ⌜ (0 < r → measuredRow (shapeOf (word (now (row .entry)) 0)) (now (row .entry)) (now (pool .entry)) ≡ Size r) ⌝ }
 {
-    if 16384 < row.len() {
+    if ROW_WORDS < row.len() {
         return 0;
     }
-    if 65536 < pool.len() {
+    if POOL_BYTES < pool.len() {
         return 0;
     }
     match fields::kind_of(row) {
@@ -111,7 +113,7 @@ pub fn put_row(row: &[u32], pool: &[u8], out: &mut [u8], to: usize)
 pub fn write_small(row: &[u32], pool: &[u8], out: &mut [u8], at: usize) -> usize
     ensures { λ r. ⌜ Tried (shapeOf (word (now (row .entry)) 0)) (now (row .entry)) (now (pool .entry)) (now (out .entry)) at r (now (out .exit)) ⌝ }
 {
-    if 65536 < pool.len() {
+    if POOL_BYTES < pool.len() {
         return 0;
     }
     match fields::kind_of(row) {

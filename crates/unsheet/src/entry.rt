@@ -1,11 +1,10 @@
 // An entry in plain words. `words` are those of its row from some place on, and `entry` is its bytes, in which the row names its strings.
 use crate::parts::last_two;
 use crate::parts::plus;
-use crate::parts::word;
 use crate::parts::words_after;
-use crate::print::say;
-use crate::print::say_number;
 use crate::print::say_quoted;
+use telling::say;
+use telling::word;
 
 // What a counted kind repeats.
 enum Unit {
@@ -25,7 +24,7 @@ fn say_name(words: &[u32], entry: &[u8]) {
 }
 
 // The primitives by their numbers. Here and below the reader's rows have no other number than those named, so `?` is never printed.
-fn say_primitive(p: u32) {
+fn say_primitive(p: u32) -> usize {
     match p {
         0 => say(b"bool"),
         1 => say(b"s8"),
@@ -46,17 +45,17 @@ fn say_primitive(p: u32) {
 }
 
 fn say_index(before: &[u8], index: u32) {
-    say(before);
-    say_number(index as u64);
+    telling::say_field(before, index as u64);
 }
 
 // Document 01's V.
 fn say_value(before: &[u8], words: &[u32]) {
     say(before);
     if word(words, 0) == 0 {
-        return say_primitive(word(words, 1));
+        say_primitive(word(words, 1));
+    } else {
+        say_index(b"type ", word(words, 1));
     }
-    say_index(b"type ", word(words, 1));
 }
 
 // Document 01's O: nothing where it is absent.
@@ -93,9 +92,10 @@ fn width(unit: Unit) -> usize {
 
 fn say_between(before: usize, first: &[u8]) {
     if before == 0 {
-        return say(first);
+        say(first);
+    } else {
+        say(b", ");
     }
-    say(b", ");
 }
 
 // A counted kind: its units, with `first` before the first of them.
@@ -168,9 +168,10 @@ fn say_option(before: &[u8], words: &[u32], entry: &[u8]) {
 
 fn say_type_bound(words: &[u32]) {
     if word(words, 0) == 0 {
-        return say_index(b"type equal to ", word(words, 1));
+        say_index(b"type equal to ", word(words, 1));
+    } else {
+        say(b"fresh resource");
     }
-    say(b"fresh resource");
 }
 
 fn say_reference(words: &[u32]) {
@@ -181,7 +182,9 @@ fn say_reference(words: &[u32]) {
         3 => say_type_bound(words_after(words, 1)),
         4 => say_index(b"component ", word(words, 1)),
         5 => say_index(b"instance ", word(words, 1)),
-        _ => say(b"?"),
+        _ => {
+            say(b"?");
+        }
     }
 }
 
@@ -198,7 +201,9 @@ fn say_import(words: &[u32], entry: &[u8]) {
 // The words after the kind, as document 01 lays them out for it.
 fn say_kind(kind: u32, words: &[u32], entry: &[u8]) {
     match kind {
-        0 => say_primitive(word(words, 0)),
+        0 => {
+            say_primitive(word(words, 0));
+        }
         1 => say_counted(b"record", Unit::Member, b" ", words, entry),
         2 => say_counted(b"variant", Unit::Case, b" ", words, entry),
         3 => say_value(b"list of ", words),
@@ -216,7 +221,9 @@ fn say_kind(kind: u32, words: &[u32], entry: &[u8]) {
         15 => say_function(words, entry),
         16 => say_resource(words),
         17 => say_import(words, entry),
-        _ => say(b"?"),
+        _ => {
+            say(b"?");
+        }
     }
 }
 

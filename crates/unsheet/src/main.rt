@@ -15,22 +15,22 @@ mod print;
 mod runs;
 mod section;
 
+use fields::ROW_WORDS;
 use libc::STDIN_FILENO;
 use parts::after;
 use parts::plus;
-use print::say;
 use print::say_limit;
-use print::say_line;
 use runs::Sort;
 use runs::is_all;
 use runs::is_blank;
 use runs::run_end;
 use section::show_section;
+use telling::say;
+use telling::say_line;
+use telling::starts_with;
 ghost use Prim.Native.Nat.{_<_};
 ghost use mathlib.Core.Path.{_≡_};
 ghost use lib.ListN.{length};
-
-const WORDS: usize = 16384;
 
 const LIMIT: usize = 1048576;
 
@@ -69,20 +69,6 @@ fn first_grade() -> u32 {
         2 => asked_grade(),
         _ => 0,
     }
-}
-
-fn starts_with(line: &[u8], word: &[u8]) -> bool {
-    if line.len() < word.len() {
-        return false;
-    }
-    let mut i = 0;
-    while i < word.len() {
-        if line[i] != word[i] {
-            return false;
-        }
-        i += 1;
-    }
-    true
 }
 
 // The value of a hexadecimal digit.
@@ -194,6 +180,6 @@ fn main() {
         return say_limit(b": the input has more than 1048576 bytes");
     }
     let mut bytes = room();
-    let mut row = [0u32; WORDS];
+    let mut row = [0u32; ROW_WORDS];
     show(&input[..n], &mut bytes, &mut row);
 }

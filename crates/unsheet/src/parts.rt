@@ -45,11 +45,6 @@ pub fn last_two(words: &[u32]) -> &[u32] {
     }
 }
 
-// A word, 0 past their end.
-pub fn word(words: &[u32], i: usize) -> u32 {
-    if i < words.len() { words[i] } else { 0 }
-}
-
 // Sums of places stay far below 2^64, so none wraps.
 pub fn plus(a: usize, b: usize) -> usize {
     std::num::wrapping_add_usize(a, b)

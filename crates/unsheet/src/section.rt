@@ -4,16 +4,15 @@ use crate::parts::after;
 use crate::parts::front;
 use crate::parts::plus;
 use crate::parts::words_front;
-use crate::print::say;
-use crate::print::say_count;
 use crate::print::say_limit;
-use crate::print::say_number;
 use crate::print::say_place;
 use crate::print::say_refusal;
 use crate::print::say_room;
 use fields::Read;
 use fields::Refusal;
 use numbers::Taken;
+use telling::say;
+use telling::say_count;
 
 enum Family {
     Types,
@@ -30,24 +29,28 @@ enum Shown {
 
 fn read(family: Family, entry: &[u8], grade: u32, row: &mut [u32]) -> Read {
     match family {
-        Family::Types => types::read(entry, grade, row),
-        Family::Imports => imports::read(entry, grade, row),
+        Family::Types => items::read_type(entry, grade, row),
+        Family::Imports => items::read_import(entry, grade, row),
+    }
+}
+
+fn say_family(family: Family) -> usize {
+    match family {
+        Family::Types => say(b"types: "),
+        Family::Imports => say(b"imports: "),
     }
 }
 
 // `types: 2 entries, 18 bytes`, which are those of the whole section, as its size says.
 fn say_head(family: Family, count: u32, size: usize) {
-    match family {
-        Family::Types => say(b"types: "),
-        Family::Imports => say(b"imports: "),
-    }
+    say_family(family);
     say_count(count as u64, b" entry, ", b" entries, ");
     say_count(size as u64, b" byte\n", b" bytes\n");
 }
 
 // `0 at 3, 5 bytes: ` and the entry.
 fn say_entry(number: u32, at: usize, size: usize, row: &[u32], entry: &[u8]) {
-    say_number(number as u64);
+    telling::say_number(number as u64);
     say_place(at);
     say(b", ");
     say_count(size as u64, b" byte: ", b" bytes: ");

@@ -1,19 +1,7 @@
 // What is lent to be written: filled before a case is run, and looked at afterwards.
 use crate::list;
-
-// What stands at a place before a case is run: the two patterns add up to 255, so that they differ everywhere.
-fn pattern(i: usize, turned: bool) -> u8 {
-    let low = (i % 127) as u8;
-    if turned { 255 - low } else { low }
-}
-
-pub fn fill(buffer: &mut [u8], turned: bool) {
-    let mut i = 0;
-    while i < buffer.len() {
-        buffer[i] = pattern(i, turned);
-        i += 1;
-    }
-}
+use telling::fill;
+use telling::pattern;
 
 // What has to stand at a place afterwards.
 fn wanted(i: usize, made: &[u8], turned: bool) -> u8 {

@@ -73,7 +73,7 @@ fn run_list(
     row: &mut [u32],
 ) {
     let mut tally = [0u64; tally::SLOTS];
-    tally::say_line(numbers::part(input, 0, title));
+    telling::say_line(numbers::part(input, 0, title));
     run_cases(total, input, made, body, out, row, &mut tally);
     tally::say_list(&tally);
 }

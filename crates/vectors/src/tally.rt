@@ -2,7 +2,9 @@
 use crate::list::Case;
 use crate::trial;
 use crate::trial::Outcome;
-use libc::STDOUT_FILENO;
+use telling::say;
+use telling::say_field;
+use telling::say_name;
 ghost use Prim.Native.Nat.{_<_};
 
 // For each sort: how often each of document 01's numbers was answered, and then these.
@@ -18,24 +20,11 @@ const SORTS: usize = 3;
 
 pub const SLOTS: usize = 57;
 
-fn say(text: &[u8]) {
-    io::write_all(STDOUT_FILENO, text);
-}
-
-pub fn say_line(text: &[u8]) {
-    say(text);
-    say(b"\n");
-}
-
 pub fn say_broken() {
     say(b"? the list is broken\n");
 }
 
-fn say_number(n: usize) {
-    io::print_decimal(STDOUT_FILENO, n as u64);
-}
-
-fn say_sort(sort: usize) {
+fn say_sort(sort: usize) -> usize {
     match sort {
         0 => say(b" sheets"),
         1 => say(b" types"),
@@ -44,37 +33,13 @@ fn say_sort(sort: usize) {
     }
 }
 
-// Document 01's name of a number.
-fn say_name(number: usize) {
-    match number {
-        0 => say(b" OK "),
-        1 => say(b" LIMIT "),
-        2 => say(b" KIND "),
-        3 => say(b" ROW "),
-        4 => say(b" TAG "),
-        5 => say(b" RANGE "),
-        6 => say(b" TEXT "),
-        7 => say(b" TOO_BIG "),
-        8 => say(b" ROOM "),
-        9 => say(b" ORDER "),
-        10 => say(b" COUNT "),
-        11 => say(b" CUT "),
-        12 => say(b" CODE "),
-        13 => say(b" NUMBER "),
-        14 => say(b" NEWER "),
-        15 => say(b" SHEET "),
-        _ => say(b" ? "),
-    }
-}
-
 fn say_answer(text: &[u8], number: usize, value: usize, words: usize) {
-    say(text);
-    say_number(number);
+    say_field(text, number as u64);
+    say(b" ");
     say_name(number);
-    say_number(value);
+    say_field(b" ", value as u64);
     if 0 < words {
-        say(b", words ");
-        say_number(words);
+        say_field(b", words ", words as u64);
     }
 }
 
@@ -83,8 +48,7 @@ pub fn say_difference(at: usize, case: Case, outcome: Outcome) {
     if outcome.right {
         return;
     }
-    say(b"case ");
-    say_number(at);
+    say_field(b"case ", at as u64);
     say(b",");
     say_sort(case.sort);
     say_answer(
@@ -94,7 +58,8 @@ pub fn say_difference(at: usize, case: Case, outcome: Outcome) {
         outcome.words,
     );
     if trial::is_told(case, outcome.number, outcome.value, outcome.words) {
-        return say_line(b", with other bytes");
+        say(b", with other bytes\n");
+        return;
     }
     say_answer(
         b"; the list has ",
@@ -140,12 +105,13 @@ pub fn count(tally: &mut [u64; SLOTS], sort: usize, outcome: Outcome) {
     }
 }
 
-fn say_count(tally: &[u64; SLOTS], sort: usize, number: usize)
+// A count behind a text.
+fn say_count(text: &[u8], tally: &[u64; SLOTS], sort: usize, number: usize)
     requires { ⌜ sort < 3 ⌝ }
     requires { ⌜ number < 19 ⌝ }
 {
     let slot = slot_of(sort, number);
-    io::print_decimal(STDOUT_FILENO, tally[slot]);
+    say_field(text, tally[slot]);
 }
 
 // A line for each of document 01's numbers.
@@ -154,9 +120,10 @@ fn say_numbers(tally: &[u64; SLOTS], sort: usize)
 {
     let mut i = 0;
     while i < ALL {
-        say_number(i);
+        telling::say_number(i as u64);
+        say(b" ");
         say_name(i);
-        say_count(tally, sort, i);
+        say_count(b" ", tally, sort, i);
         say(b"\n");
         i += 1;
     }
@@ -170,14 +137,11 @@ fn say_tally(tally: &[u64; SLOTS], sort: usize)
     if tally[all] == 0 {
         return;
     }
-    say_count(tally, sort, ALL);
+    say_count(b"", tally, sort, ALL);
     say_sort(sort);
-    say(b": ");
-    say_count(tally, sort, 0);
-    say(b" ok, ");
-    say_count(tally, sort, REFUSED);
-    say(b" refused, ");
-    say_count(tally, sort, DIFFER);
+    say_count(b": ", tally, sort, 0);
+    say_count(b" ok, ", tally, sort, REFUSED);
+    say_count(b" refused, ", tally, sort, DIFFER);
     say(b" differ\n");
     say_numbers(tally, sort);
 }

@@ -81,8 +81,8 @@ fn try_sheet(
     out: &mut [u8],
     turned: bool,
 ) -> Outcome {
-    lent::fill(body, turned);
-    lent::fill(out, turned);
+    telling::fill(body, turned);
+    telling::fill(out, turned);
     let mut outcome = outcome_of(case, sheets::sheet(sheet, body, out));
     if outcome.right {
         outcome.right = is_section_made(case, section, body, out, turned);
@@ -92,9 +92,9 @@ fn try_sheet(
 
 fn read(case: Case, input: &[u8], row: &mut [u32]) -> Read {
     if case.sort == list::TYPES {
-        types::read(input, case.grade, row)
+        items::read_type(input, case.grade, row)
     } else {
-        imports::read(input, case.grade, row)
+        items::read_import(input, case.grade, row)
     }
 }
 

@@ -13,16 +13,17 @@ use Rattle.numbers.specs.declared.bytes.Stored.{Stored}
 use Rattle.numbers.proofs.BytesLaws.{sets-append, store-fits, part-inside}
 use Rattle.fields.specs.declared.Field.{Field}
 use Rattle.fields.specs.declared.Field.the-variants as field
-use Rattle.fields.specs.Binary.{word, name, valtype, optional, canonopt, bytes}
-use Rattle.fields.specs.Judge.{wide, flaw}
-use Rattle.fields.specs.Run.{Wrote}
+use Rattle.fields.specs.Words.{word, wide}
+use Rattle.writing.specs.Binary.{name, valtype, optional, canonopt, bytes}
+use Rattle.writing.specs.Judge.{flaw}
+use Rattle.writing.specs.inside.Wrote.{Wrote}
 use Rattle.fields.specs.Shape.{repeated, widths}
 use Rattle.fields.specs.Table.{elements}
-use Rattle.fields.proofs.FlawLaws.{name-inside}
+use Rattle.writing.proofs.FlawLaws.{name-inside}
 use Rattle.fields.proofs.NearLaws.{first-word, second-word}
-use Rattle.fields.proofs.TableLaws.{strings}
-use Rattle.fields.proofs.WroteLaws.{then-byte, same-size}
-use Rattle.writing.specs.Seen.{Rights, Groups}
+use Rattle.writing.proofs.TableLaws.{strings}
+use Rattle.writing.proofs.WroteLaws.{then-byte, same-size}
+use Rattle.writing.specs.inside.Rows.{Rights, Groups}
 use Rattle.writing.proofs.RowLaws.{rights-first, rights-rest, rights-join}
 
 -- ---- groups that are seen: `left` are still to be seen, each of `most` bytes at most

@@ -15,10 +15,11 @@ use Rattle.numbers.specs.declared.bytes.Stored.{Stored}
 use Rattle.numbers.specs.declared.bytes.Stored.the-variants.{Size, Room}
 use Rattle.numbers.proofs.BytesLaws.{sets-append, store-fits, store-room, part-inside}
 use Rattle.fields.specs.declared.Field.the-variants as field
-use Rattle.fields.specs.Binary.{chars, valtype, bytes}
-use Rattle.fields.specs.Judge.{value, named, flaw}
-use Rattle.fields.proofs.SizeLaws.{inside-length}
-use Rattle.writing.specs.Seen.{within, rightSize}
+use Rattle.fields.specs.Words.{chars}
+use Rattle.writing.specs.Binary.{valtype, bytes}
+use Rattle.writing.specs.Judge.{value, named, flaw}
+use Rattle.writing.proofs.SizeLaws.{inside-length}
+use Rattle.writing.specs.Sizes.{within, rightSize}
 
 -- ---- room
 

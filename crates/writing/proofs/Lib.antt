@@ -1,3 +1,16 @@
+pub mod AnswerLaws
+pub mod ByteLaws
+pub mod FlawLaws
 pub mod GroupLaws
+pub mod JudgedLaws
 pub mod LeafLaws
+pub mod OrderLaws
+pub mod ProductionLaws
+pub mod PutLaws
 pub mod RowLaws
+pub mod SizeLaws
+pub mod StagedLaws
+pub mod TableLaws
+pub mod TableRows
+pub mod WholeLaws
+pub mod WroteLaws

@@ -2,7 +2,7 @@
 use Prim.Native.Nat.{ℕ, zero, suc, _+_, _*_, _^_, _≤_, _<_}
 use native.Mathlib.Omega.{arith}
 use mathlib.Core.Path.{_≡_, refl, sym, ap, _∙_, subst}
-use mathlib.Core.Bool.{Bool, true, false}
+use mathlib.Core.Bool.{Bool, true, false, cond}
 use mathlib.Core.List.{List, [], _∷_, _++_, append-assoc, append-nil}
 use borrow.Author.Tests.{ltb-true, ltb-false, leb-true, leb-false, lt-ltb, le-ltb, le-leb, lt-leb, eq-eqb, ne-eqb}
 use lib.Dec.{eqb, ltb, leb}
@@ -21,23 +21,27 @@ use Rattle.fields.specs.declared.Leaf.the-variants.{Fine}
 use Rattle.fields.specs.declared.Refusal.{Refusal}
 use Rattle.fields.specs.declared.Refusal.the-variants.{Room, TooBig}
 use Rattle.fields.specs.declared.Shape.{Shape}
-use Rattle.fields.specs.Binary.{pick, word, primvaltype, valtype, optional, resultlist, destructor, bytes}
-use Rattle.fields.specs.Judge.{wide, value, optionalValue, named, optionalIndex, flaw, unless, judge}
-use Rattle.fields.specs.Row.{measuredRow, rowBytes, writeRow}
-use Rattle.fields.specs.Run.{along}
-use Rattle.fields.specs.Shape.{opening, closing, repeated, widths, rowWidth}
+use Rattle.fields.specs.Words.{word, wide}
+use Rattle.writing.specs.Binary.{primvaltype, valtype, optional, resultlist, destructor, bytes}
+use Rattle.writing.specs.Judge.{value, optionalValue, named, optionalIndex, flaw, unless, judge}
+use Rattle.writing.specs.Row.{measuredRow, rowBytes, writeRow}
+use Rattle.fields.specs.inside.Run.{along}
+use Rattle.fields.specs.Shape.{opening, repeated, widths, rowWidth}
 use Rattle.fields.specs.Table.{elements, twoOf, manyOf}
 use Rattle.fields.specs.Walk.{next}
-use Rattle.fields.specs.Write.{left, written, sized, measured, stored}
-use Rattle.fields.proofs.AnswerLaws as answer
-use Rattle.fields.proofs.FlawLaws.{name-inside}
+use Rattle.fields.specs.Answers.{left}
+use Rattle.writing.specs.Write.{written, sized, measured, stored}
+use Rattle.writing.proofs.AnswerLaws as answer
+use Rattle.writing.proofs.FlawLaws.{name-inside}
 use Rattle.fields.proofs.NearLaws.{first-word, second-word}
-use Rattle.fields.proofs.PutLaws.{countedFields, allFields, judged-along}
-use Rattle.fields.proofs.SizeLaws.{inside-length}
-use Rattle.fields.proofs.TableLaws.{strings, written-right}
-use Rattle.fields.proofs.WholeLaws.{Accepted, accepted, sized-accepted}
+use Rattle.writing.proofs.PutLaws.{allFields, judged-along}
+use Rattle.writing.proofs.SizeLaws.{inside-length}
+use Rattle.writing.proofs.TableLaws.{strings, written-right}
+use Rattle.writing.proofs.WholeLaws.{Accepted, accepted, sized-accepted}
 use Rattle.fields.proofs.WidthLaws.{repeated-widths}
-use Rattle.writing.specs.Seen.{within, sizeIf, rightSize, Seen, Rights, Groups, Tried}
+use Rattle.writing.specs.Sizes.{within, sizeIf, rightSize}
+use Rattle.writing.specs.inside.Rows.{Known, Rights, Groups, Tried}
+use Rattle.numbers.proofs.Impossible.{impossible}
 
 -- ---- room
 
@@ -45,40 +49,40 @@ pub within-fits : (size at room : ℕ) → within size at room ≡ true → (0 <
 unfolding within
 within-fits size at room e = go (ltb 0 size) refl e
   where
-    go : (a : Bool) → ltb 0 size ≡ a → pick a (leb (at + size) room) false ≡ true → (0 < size) × (at + size ≤ room)
+    go : (a : Bool) → ltb 0 size ≡ a → cond a (leb (at + size) room) false ≡ true → (0 < size) × (at + size ≤ room)
     go true p e = (ltb-true 0 size p, leb-true (at + size) room e)
-    go false p e = let z : _≡_ {A = ℕ} 0 1 = cc in absurd (omega arith)
+    go false p e = impossible cc
 
 pub within-not : (size at room : ℕ) → within size at room ≡ false → 0 < size → at + size ≤ room → ⊥
 unfolding within
 within-not size at room e h = go (ltb 0 size) refl e
   where
-    go : (a : Bool) → ltb 0 size ≡ a → pick a (leb (at + size) room) false ≡ false → at + size ≤ room → ⊥
+    go : (a : Bool) → ltb 0 size ≡ a → cond a (leb (at + size) room) false ≡ false → at + size ≤ room → ⊥
     go true p e k = omega (arith, leb-false (at + size) room e)
     go false p e k = omega (arith, ltb-false 0 size p)
 
 -- ---- fields by their words
 
-pub seen-of : {pool : List ℕ} {f : Field} {ws : List ℕ} {r : ℕ} → r ≡ rightSize pool f ws → 0 < r → Seen pool f ws r
+pub known-of : {pool : List ℕ} {f : Field} {ws : List ℕ} {r : ℕ} → r ≡ rightSize pool f ws → 0 < r → Known pool f ws r
 unfolding rightSize
-seen-of {pool} {f} {ws} {r} e h = go (flaw pool f ws) refl e
+known-of {pool} {f} {ws} {r} e h = go (flaw pool f ws) refl e
   where
-    go : (x : Flaw) → flaw pool f ws ≡ x → r ≡ sizeIf x (length (bytes pool f ws)) → Seen pool f ws r
+    go : (x : Flaw) → flaw pool f ws ≡ x → r ≡ sizeIf x (length (bytes pool f ws)) → Known pool f ws r
     go Right p e = record { right = p; size = e }
     go (Wrong w j) p e = absurd (omega arith)
 
 -- a value does not look at the pool
-pub value-seen : {t x r : ℕ} → r ≡ rightSize [] field.Value (t ∷ x ∷ []) → 0 < r → (pool : List ℕ) → Seen pool field.Value (t ∷ x ∷ []) r
+pub value-known : {t x r : ℕ} → r ≡ rightSize [] field.Value (t ∷ x ∷ []) → 0 < r → (pool : List ℕ) → Known pool field.Value (t ∷ x ∷ []) r
 unfolding flaw bytes
-value-seen {t} {x} {r} e h pool =
-    let s : Seen [] field.Value (t ∷ x ∷ []) r = seen-of e h in
+value-known {t} {x} {r} e h pool =
+    let s : Known [] field.Value (t ∷ x ∷ []) r = known-of e h in
     record { right = s .right; size = s .size }
 
 pub valtype-small : (t x : ℕ) → length (valtype t x) ≤ 5
 unfolding valtype
 valtype-small t x = go (eqb t 0)
   where
-    go : (b : Bool) → length (pick b (primvaltype x ∷ []) (signed x)) ≤ 5
+    go : (b : Bool) → length (cond b (primvaltype x ∷ []) (signed x)) ≤ 5
     go true = omega arith
     go false = size-bounds 64 x .1
 
@@ -127,47 +131,47 @@ module _ (t x : ℕ) where
   result-some n = simp (ne-eqb _ _ n) (omega arith)
 
   module _ (pool : List ℕ) where
-    pub optional-seen : {r : ℕ} → optionalValue (t ∷ x ∷ []) 0 ≡ Right → r ≡ length (optional t x) → Seen pool field.Optional (t ∷ x ∷ []) r
+    pub optional-known : {r : ℕ} → optionalValue (t ∷ x ∷ []) 0 ≡ Right → r ≡ length (optional t x) → Known pool field.Optional (t ∷ x ∷ []) r
     unfolding flaw bytes
-    optional-seen e s = record { right = e; size = s }
+    optional-known e s = record { right = e; size = s }
 
-    pub case-seen : {r : ℕ} → optionalValue (t ∷ x ∷ []) 0 ≡ Right → r ≡ length (optional t x) + 1 → Seen pool field.OptionalThenZero (t ∷ x ∷ []) r
+    pub case-known : {r : ℕ} → optionalValue (t ∷ x ∷ []) 0 ≡ Right → r ≡ length (optional t x) + 1 → Known pool field.OptionalThenZero (t ∷ x ∷ []) r
     unfolding flaw bytes
-    case-seen e s = record { right = e; size = s ∙ sym (length-append (optional t x) (0x00 ∷ [])) }
+    case-known e s = record { right = e; size = s ∙ sym (length-append (optional t x) (0x00 ∷ [])) }
 
-    pub result-seen : {r : ℕ} → optionalValue (t ∷ x ∷ []) 0 ≡ Right → r ≡ length (resultlist t x) → Seen pool field.Result (t ∷ x ∷ []) r
+    pub result-known : {r : ℕ} → optionalValue (t ∷ x ∷ []) 0 ≡ Right → r ≡ length (resultlist t x) → Known pool field.Result (t ∷ x ∷ []) r
     unfolding flaw bytes
-    result-seen e s = record { right = e; size = s }
+    result-known e s = record { right = e; size = s }
 
     -- absent, and present
-    pub optional-absent : t ≡ 2 → x ≡ 0 → Seen pool field.Optional (t ∷ x ∷ []) 1
-    optional-absent e z = optional-seen (none-right e z) (sym (optional-none e))
+    pub optional-absent : t ≡ 2 → x ≡ 0 → Known pool field.Optional (t ∷ x ∷ []) 1
+    optional-absent e z = optional-known (none-right e z) (sym (optional-none e))
 
-    pub case-absent : t ≡ 2 → x ≡ 0 → Seen pool field.OptionalThenZero (t ∷ x ∷ []) 2
-    case-absent e z = case-seen (none-right e z) (omega (arith, optional-none e))
+    pub case-absent : t ≡ 2 → x ≡ 0 → Known pool field.OptionalThenZero (t ∷ x ∷ []) 2
+    case-absent e z = case-known (none-right e z) (omega (arith, optional-none e))
 
-    pub result-absent : t ≡ 2 → x ≡ 0 → Seen pool field.Result (t ∷ x ∷ []) 2
-    result-absent e z = result-seen (none-right e z) (sym (result-none e))
+    pub result-absent : t ≡ 2 → x ≡ 0 → Known pool field.Result (t ∷ x ∷ []) 2
+    result-absent e z = result-known (none-right e z) (sym (result-none e))
 
-    module _ (n : t ≡ 2 → ⊥) {r : ℕ} (s : Seen pool field.Value (t ∷ x ∷ []) r) where
+    module _ (n : t ≡ 2 → ⊥) {r : ℕ} (s : Known pool field.Value (t ∷ x ∷ []) r) where
       value-length : r ≡ length (valtype t x)
       unfolding bytes
       value-length = s .size
 
-      pub optional-present : Seen pool field.Optional (t ∷ x ∷ []) (1 + r)
-      optional-present = optional-seen (some-right n pool (s .right)) (omega (arith, value-length, optional-some n))
+      pub optional-present : Known pool field.Optional (t ∷ x ∷ []) (1 + r)
+      optional-present = optional-known (some-right n pool (s .right)) (omega (arith, value-length, optional-some n))
 
-      pub case-present : Seen pool field.OptionalThenZero (t ∷ x ∷ []) (2 + r)
-      case-present = case-seen (some-right n pool (s .right)) (omega (arith, value-length, optional-some n))
+      pub case-present : Known pool field.OptionalThenZero (t ∷ x ∷ []) (2 + r)
+      case-present = case-known (some-right n pool (s .right)) (omega (arith, value-length, optional-some n))
 
-      pub result-present : Seen pool field.Result (t ∷ x ∷ []) (1 + r)
-      result-present = result-seen (some-right n pool (s .right)) (omega (arith, value-length, result-some n))
+      pub result-present : Known pool field.Result (t ∷ x ∷ []) (1 + r)
+      result-present = result-known (some-right n pool (s .right)) (omega (arith, value-length, result-some n))
 
-    pub destructor-absent : t ≡ 0 → x ≡ 0 → Seen pool field.OptionalIndex (t ∷ x ∷ []) 1
+    pub destructor-absent : t ≡ 0 → x ≡ 0 → Known pool field.OptionalIndex (t ∷ x ∷ []) 1
     unfolding flaw optionalIndex bytes destructor
     destructor-absent e z = record { right = simp (eq-eqb _ _ e, eq-eqb _ _ z); size = simp (eq-eqb _ _ e) }
 
-    pub destructor-present : t ≡ 1 → {r : ℕ} → r ≡ length (unsigned x) → Seen pool field.OptionalIndex (t ∷ x ∷ []) (1 + r)
+    pub destructor-present : t ≡ 1 → {r : ℕ} → r ≡ length (unsigned x) → Known pool field.OptionalIndex (t ∷ x ∷ []) (1 + r)
     unfolding flaw optionalIndex bytes destructor
     destructor-present e {r} er =
         let n : t ≡ 0 → ⊥ = λ z. omega arith in
@@ -176,61 +180,61 @@ module _ (t x : ℕ) where
 -- ---- fields at their places, of which code has the words
 
 module _ (pool row : List ℕ) (at : ℕ) {a b r : ℕ} (ea : a ≡ word row at) (eb : b ≡ word row (at + 1)) where
-  moved : (f : Field) → Seen pool f (a ∷ b ∷ []) r → Seen pool f (word (drop at row) 0 ∷ word (drop at row) 1 ∷ []) r
+  moved : (f : Field) → Known pool f (a ∷ b ∷ []) r → Known pool f (word (drop at row) 0 ∷ word (drop at row) 1 ∷ []) r
   moved f s =
       let x = ea ∙ first-word row at in
       let y = eb ∙ second-word row at in
-      subst (λ l. Seen pool f l r) (λ i. x i ∷ y i ∷ []) s
+      subst (λ l. Known pool f l r) (λ i. x i ∷ y i ∷ []) s
 
-  pub value-at : Seen pool field.Value (a ∷ b ∷ []) r → Seen pool field.Value (drop at row) r
+  pub value-at : Known pool field.Value (a ∷ b ∷ []) r → Known pool field.Value (drop at row) r
   unfolding flaw value bytes
   value-at s = let t = moved field.Value s in record { right = t .right; size = t .size }
 
-  pub name-at : Seen pool field.Name (a ∷ b ∷ []) r → Seen pool field.Name (drop at row) r
+  pub name-at : Known pool field.Name (a ∷ b ∷ []) r → Known pool field.Name (drop at row) r
   unfolding flaw named bytes
   name-at s = let t = moved field.Name s in record { right = t .right; size = t .size }
 
-  pub optional-at : Seen pool field.Optional (a ∷ b ∷ []) r → Seen pool field.Optional (drop at row) r
+  pub optional-at : Known pool field.Optional (a ∷ b ∷ []) r → Known pool field.Optional (drop at row) r
   unfolding flaw optionalValue value bytes
   optional-at s = let t = moved field.Optional s in record { right = t .right; size = t .size }
 
-  pub case-at : Seen pool field.OptionalThenZero (a ∷ b ∷ []) r → Seen pool field.OptionalThenZero (drop at row) r
+  pub case-at : Known pool field.OptionalThenZero (a ∷ b ∷ []) r → Known pool field.OptionalThenZero (drop at row) r
   unfolding flaw optionalValue value bytes
   case-at s = let t = moved field.OptionalThenZero s in record { right = t .right; size = t .size }
 
-  pub result-at : Seen pool field.Result (a ∷ b ∷ []) r → Seen pool field.Result (drop at row) r
+  pub result-at : Known pool field.Result (a ∷ b ∷ []) r → Known pool field.Result (drop at row) r
   unfolding flaw optionalValue value bytes
   result-at s = let t = moved field.Result s in record { right = t .right; size = t .size }
 
-  pub destructor-at : Seen pool field.OptionalIndex (a ∷ b ∷ []) r → Seen pool field.OptionalIndex (drop at row) r
+  pub destructor-at : Known pool field.OptionalIndex (a ∷ b ∷ []) r → Known pool field.OptionalIndex (drop at row) r
   unfolding flaw optionalIndex bytes
   destructor-at s = let t = moved field.OptionalIndex s in record { right = t .right; size = t .size }
 
 module _ (pool row : List ℕ) (at : ℕ) {a : ℕ} (ea : a ≡ word row at) where
-  pub index-at : {r : ℕ} → r ≡ length (unsigned a) → Seen pool field.Index (drop at row) r
+  pub index-at : {r : ℕ} → r ≡ length (unsigned a) → Known pool field.Index (drop at row) r
   unfolding flaw bytes
   index-at er = record { right = refl; size = er ∙ ap (λ n. length (unsigned n)) (ea ∙ first-word row at) }
 
   low : (n : ℕ) → a < n → word (drop at row) 0 < n
   low n h = omega (arith, ea, first-word row at)
 
-  pub async-at : a < 2 → Seen pool field.Async (drop at row) 1
+  pub async-at : a < 2 → Known pool field.Async (drop at row) 1
   unfolding flaw bytes
   async-at h = record { right = simp (lt-ltb _ _ (low 2 h)); size = refl }
 
-  pub rep-at : a < 2 → Seen pool field.Rep (drop at row) 1
+  pub rep-at : a < 2 → Known pool field.Rep (drop at row) 1
   unfolding flaw bytes
   rep-at h = record { right = simp (lt-ltb _ _ (low 2 h)); size = refl }
 
-  pub primitive-at : a < 14 → Seen pool field.Primitive (drop at row) 1
+  pub primitive-at : a < 14 → Known pool field.Primitive (drop at row) 1
   unfolding flaw bytes
   primitive-at h = record { right = simp (lt-ltb _ _ (low 14 h)); size = refl }
 
-pub nothing-at : (pool ws : List ℕ) → Seen pool field.Nothing ws 0
+pub nothing-at : (pool ws : List ℕ) → Known pool field.Nothing ws 0
 unfolding flaw bytes
 nothing-at pool ws = record { right = refl; size = refl }
 
-pub fixed-at : (pool ws : List ℕ) (b : ℕ) → Seen pool (field.Fixed b) ws 1
+pub fixed-at : (pool ws : List ℕ) (b : ℕ) → Known pool (field.Fixed b) ws 1
 unfolding flaw bytes
 fixed-at pool ws b = record { right = refl; size = refl }
 
@@ -283,26 +287,33 @@ group-strings pool g element same (suc n) ws =
     strings-append pool g (repeated n g) ws
     ∙ (λ i. sym (same ws) i ++ group-strings pool g element same n (drop (widths g) ws) i)
 
+-- and no field behind them
+pub only-groups : (pool : List ℕ) (g : List Field) (element : List ℕ → List ℕ) → ((ws : List ℕ) → element ws ≡ strings pool g ws)
+    → (n : ℕ) (ws : List ℕ) → strings pool (repeated n g ++ field.Nothing ∷ []) ws ≡ elements n (widths g) element ws
+unfolding strings bytes
+only-groups pool g element same n ws =
+    strings-append pool (repeated n g) (field.Nothing ∷ []) ws ∙ append-nil _ ∙ group-strings pool g element same n ws
+
 -- ---- rows that have a size
 
-along-seen : (pool : List ℕ) (fs : List Field) (ws : List ℕ) (at made : ℕ) → Rights pool fs ws
+along-known : (pool : List ℕ) (fs : List Field) (ws : List ℕ) (at made : ℕ) → Rights pool fs ws
     → along (judge pool) fs ws at made ≡ Fine (at + widths fs) (made + length (strings pool fs ws))
 unfolding along judge Rights strings widths
-along-seen pool [] ws at made r =
+along-known pool [] ws at made r =
     let p : at ≡ at + 0 = omega arith in
     let q : made ≡ made + 0 = omega arith in
     λ i. Fine (p i) (q i)
-along-seen pool (f ∷ fs) ws at made r =
+along-known pool (f ∷ fs) ws at made r =
     let bs = bytes pool f ws in
     let rest = strings pool fs (drop (wide f) ws) in
     let p : at + wide f + widths fs ≡ at + (wide f + widths fs) = omega arith in
     let q : made + length bs + length rest ≡ made + length (bs ++ rest) = omega (arith, length-append bs rest) in
-    rw (r .0) (along-seen pool fs (drop (wide f) ws) (at + wide f) (made + length bs) (r .1) ∙ (λ i. Fine (p i) (q i)))
+    rw (r .0) (along-known pool fs (drop (wide f) ws) (at + wide f) (made + length bs) (r .1) ∙ (λ i. Fine (p i) (q i)))
 
-pub row-seen : (s : Shape) (pool row : List ℕ) → length pool ≤ 65536 → length row ≤ 16384 → length row ≡ rowWidth s row 1
+pub row-known : (s : Shape) (pool row : List ℕ) → length pool ≤ 65536 → length row ≤ 16384 → length row ≡ rowWidth s row 1
     → Rights pool (allFields s row 1) (drop 1 row) → {r : ℕ} → r ≡ length (strings pool (allFields s row 1) (drop 1 row)) → r < 2 ^ 32
     → measuredRow (Is s) row pool ≡ Size r
-row-seen s pool row small short width rights {r} er few =
+row-known s pool row small short width rights {r} er few =
     sized-accepted s row pool r
     (record { width = sym width; short = short; small = small; end = _; judges = judged-along s pool row 1 ∙ all })
     few
@@ -311,7 +322,7 @@ row-seen s pool row small short width rights {r} er few =
     same = omega arith
 
     all : along (judge pool) (allFields s row 1) (drop 1 row) 1 0 ≡ Fine (1 + widths (allFields s row 1)) r
-    all = along-seen pool (allFields s row 1) (drop 1 row) 1 0 rights ∙ ap (λ m. Fine (1 + widths (allFields s row 1)) m) same
+    all = along-known pool (allFields s row 1) (drop 1 row) 1 0 rights ∙ ap (λ m. Fine (1 + widths (allFields s row 1)) m) same
 
 -- ---- what a row that has a size holds
 
@@ -326,7 +337,7 @@ along-rights pool (f ∷ fs) ws at made a m e =
         → (along (judge pool) fs (drop (wide f) ws) (at + wide f) (made + length (bytes pool f ws)) ≡ Fine a m → Rights pool fs (drop (wide f) ws))
         → (flaw pool f ws ≡ Right) × Rights pool fs (drop (wide f) ws)
     go Right p e ih = (p, ih e)
-    go (Wrong w j) p e ih = let z : _≡_ {A = ℕ} 0 1 = cc in absurd (omega arith)
+    go (Wrong w j) p e ih = impossible cc
 
 pub record Held (s : Shape) (row pool : List ℕ) (n : ℕ) : Type 0 where
   pub width : length row ≡ rowWidth s row 1
@@ -353,7 +364,7 @@ module _ (s : Shape) (row pool : List ℕ) {n : ℕ} (e : measuredRow (Is s) row
 
   length-is : n ≡ length (strings pool (allFields s row 1) (drop 1 row))
   length-is =
-      let h = sym all ∙ along-seen pool (allFields s row 1) (drop 1 row) 1 0 rights in
+      let h = sym all ∙ along-known pool (allFields s row 1) (drop 1 row) 1 0 rights in
       let q : n ≡ 0 + length (strings pool (allFields s row 1) (drop 1 row)) = cc in
       omega arith
 
@@ -370,25 +381,12 @@ module _ (s : Shape) (row pool : List ℕ) {n : ℕ} (e : measuredRow (Is s) row
         shaped .judges,
       ) at e)
     where
-      go : (b : Bool) → ltb 4294967295 n ≡ b → pick b (Refused TooBig 0) (Size n) ≡ Size n → n < 2 ^ 32
-      go true p h = let z : _≡_ {A = ℕ} 0 1 = cc in absurd (omega arith)
+      go : (b : Bool) → ltb 4294967295 n ≡ b → cond b (Refused TooBig 0) (Size n) ≡ Size n → n < 2 ^ 32
+      go true p h = impossible cc
       go false p h = omega (arith, ltb-false 4294967295 n p)
 
   all-made : written s pool row 1 ≡ strings pool (allFields s row 1) (drop 1 row)
-  all-made =
-      written-right s pool row 1 (shaped .end) n (shaped .judges)
-      ∙ ap (λ l. strings pool (opening s) (drop 1 row) ++ l)
-      (both (s .counted)
-      ∙ ap (λ l. strings pool (pick (s .counted) (countedFields s row at) (closing s)) l) (sym (drop-drop (widths (opening s)) 1 row)))
-      ∙ sym (strings-append pool (opening s) (pick (s .counted) (countedFields s row at) (closing s)) (drop 1 row))
-    where
-      at : ℕ
-      at = 1 + widths (opening s)
-
-      both : (b : Bool) → pick b (strings pool (countedFields s row at) (drop at row)) (strings pool (closing s) (drop at row))
-          ≡ strings pool (pick b (countedFields s row at) (closing s)) (drop at row)
-      both true = refl
-      both false = refl
+  all-made = written-right s pool row 1 (shaped .end) n (shaped .judges)
 
   pub row-held : Held s row pool n
   unfolding rowBytes
@@ -484,13 +482,13 @@ module _ (l z a b : Field) (el : wide l ≡ 0) (ez : wide z ≡ 0) (row pool : L
   unfolding rowWidth widths wide
   two-width = omega (arith, el, ez)
 
-  pub two-seen : Always pool l → Always pool z → length pool ≤ 65536 → length row ≤ 16384 → length row ≡ 1 + wide a + wide b
-      → {p q r : ℕ} → Seen pool a (drop 1 row) p → Seen pool b (drop (1 + wide a) row) q
+  pub two-known : Always pool l → Always pool z → length pool ≤ 65536 → length row ≤ 16384 → length row ≡ 1 + wide a + wide b
+      → {p q r : ℕ} → Known pool a (drop 1 row) p → Known pool b (drop (1 + wide a) row) q
       → r ≡ length (bytes pool l (drop 1 row)) + length (bytes pool z (drop 1 row)) + p + q → r < 2 ^ 32
       → measuredRow (Is (twoOf l z a b)) row pool ≡ Size r
   unfolding Rights flaw
-  two-seen rl rz small short width sa sb er few =
-      row-seen (twoOf l z a b) pool row small short (width ∙ sym two-width) (
+  two-known rl rz small short width sa sb er few =
+      row-known (twoOf l z a b) pool row small short (width ∙ sym two-width) (
         rl (drop 1 row),
         (
           rz (drop (wide l) (drop 1 row)),
@@ -531,12 +529,12 @@ pub record PairHeld (s : Shape) (head : List ℕ) (a b : Field) (row pool : List
 
 -- a byte and two fields
 module _ (lead : ℕ) (a b : Field) (row pool : List ℕ) where
-  pub lead-seen : length pool ≤ 65536 → length row ≤ 16384 → length row ≡ 1 + wide a + wide b
-      → {p q r : ℕ} → Seen pool a (drop 1 row) p → Seen pool b (drop (1 + wide a) row) q → r ≡ 1 + p + q → r < 2 ^ 32
+  pub lead-known : length pool ≤ 65536 → length row ≤ 16384 → length row ≡ 1 + wide a + wide b
+      → {p q r : ℕ} → Known pool a (drop 1 row) p → Known pool b (drop (1 + wide a) row) q → r ≡ 1 + p + q → r < 2 ^ 32
       → measuredRow (Is (twoOf (field.Fixed lead) field.Nothing a b)) row pool ≡ Size r
   unfolding wide flaw bytes
-  lead-seen small short width sa sb er few =
-      two-seen (field.Fixed lead) field.Nothing a b refl refl row pool (λ ws. refl) (λ ws. refl) small short width sa sb (omega arith) few
+  lead-known small short width sa sb er few =
+      two-known (field.Fixed lead) field.Nothing a b refl refl row pool (λ ws. refl) (λ ws. refl) small short width sa sb (omega arith) few
 
   pub lead-held : {n : ℕ} → measuredRow (Is (twoOf (field.Fixed lead) field.Nothing a b)) row pool ≡ Size n
       → PairHeld (twoOf (field.Fixed lead) field.Nothing a b) (lead ∷ []) a b row pool n
@@ -556,12 +554,12 @@ module _ (lead : ℕ) (a b : Field) (row pool : List ℕ) where
 
 -- two fields alone
 module _ (a b : Field) (row pool : List ℕ) where
-  pub bare-seen : length pool ≤ 65536 → length row ≤ 16384 → length row ≡ 1 + wide a + wide b
-      → {p q r : ℕ} → Seen pool a (drop 1 row) p → Seen pool b (drop (1 + wide a) row) q → r ≡ p + q → r < 2 ^ 32
+  pub bare-known : length pool ≤ 65536 → length row ≤ 16384 → length row ≡ 1 + wide a + wide b
+      → {p q r : ℕ} → Known pool a (drop 1 row) p → Known pool b (drop (1 + wide a) row) q → r ≡ p + q → r < 2 ^ 32
       → measuredRow (Is (twoOf field.Nothing field.Nothing a b)) row pool ≡ Size r
   unfolding wide flaw bytes
-  bare-seen small short width sa sb er few =
-      two-seen field.Nothing field.Nothing a b refl refl row pool (λ ws. refl) (λ ws. refl) small short width sa sb (omega arith) few
+  bare-known small short width sa sb er few =
+      two-known field.Nothing field.Nothing a b refl refl row pool (λ ws. refl) (λ ws. refl) small short width sa sb (omega arith) few
 
   pub bare-held : {n : ℕ} → measuredRow (Is (twoOf field.Nothing field.Nothing a b)) row pool ≡ Size n
       → PairHeld (twoOf field.Nothing field.Nothing a b) [] a b row pool n
@@ -645,7 +643,7 @@ module _ (l z a c d t : Field) (el : wide l ≡ 0) (ez : wide z ≡ 0) {w : ℕ}
       strings-append pool G (t ∷ []) X
       ∙ ap (λ v. strings pool G X ++ v) (append-nil (bytes pool t (drop (widths G) X)) ∙ ap (λ v. bytes pool t v) at-last)
 
-  pub many-strings : strings pool (allFields (manyOf l z a c d t) row 1) (drop 1 row)
+  many-strings : strings pool (allFields (manyOf l z a c d t) row 1) (drop 1 row)
       ≡ bytes pool l (drop 1 row)
       ++ (bytes pool z (drop 1 row) ++ (bytes pool a (drop 1 row) ++ (unsigned N ++ (strings pool G X ++ bytes pool t Y))))
   unfolding strings bytes wide
@@ -678,15 +676,29 @@ module _ (l z a c d t : Field) (el : wide l ≡ 0) (ez : wide z ≡ 0) {w : ℕ}
       )
 
   module _ {element : List ℕ → List ℕ} (same : (ws : List ℕ) → element ws ≡ strings pool (c ∷ d ∷ []) ws) where
-    pub many-seen : Always pool l → Always pool z → length pool ≤ 65536 → length row ≤ 16384
-        → length row ≡ 2 + wide a + word row (1 + wide a) * w + wide t → {p base m q r : ℕ} → Seen pool a (drop 1 row) p
+    many-elements : strings pool G X ≡ elements N w element X
+    many-elements = group-strings pool (c ∷ d ∷ []) element same N X ∙ ap (λ k. elements N k element X) (sym ew)
+
+    pub many-made : strings pool (allFields (manyOf l z a c d t) row 1) (drop 1 row)
+        ≡ bytes pool l (drop 1 row)
+        ++ (bytes pool z (drop 1 row)
+        ++ (bytes pool a (drop 1 row)
+        ++ (unsigned (word row (1 + wide a))
+        ++ (elements (word row (1 + wide a)) w element (drop (2 + wide a) row) ++ bytes pool t (drop (2 + wide a + word row (1 + wide a) * w) row)))))
+    many-made =
+        many-strings
+        ∙ ap (λ v. bytes pool l (drop 1 row)
+        ++ (bytes pool z (drop 1 row) ++ (bytes pool a (drop 1 row) ++ (unsigned N ++ (v ++ bytes pool t Y))))) many-elements
+
+    pub many-known : Always pool l → Always pool z → length pool ≤ 65536 → length row ≤ 16384
+        → length row ≡ 2 + wide a + word row (1 + wide a) * w + wide t → {p base m q r : ℕ} → Known pool a (drop 1 row) p
         → base ≡ length (bytes pool l (drop 1 row)) + length (bytes pool z (drop 1 row)) + p + length (unsigned (word row (1 + wide a)))
         → Groups pool (c ∷ d ∷ []) element (word row (1 + wide a)) (drop (2 + wide a) row) base m
-        → Seen pool t (drop (2 + wide a + word row (1 + wide a) * w) row) q → r ≡ m + q → r < 2 ^ 32
+        → Known pool t (drop (2 + wide a + word row (1 + wide a) * w) row) q → r ≡ m + q → r < 2 ^ 32
         → measuredRow (Is (manyOf l z a c d t)) row pool ≡ Size r
     unfolding Rights flaw wide
-    many-seen rl rz small short width {p} {base} {m} {q} {r} sa eb sg st er few =
-        row-seen (manyOf l z a c d t) pool row small short (width ∙ sym many-width) (
+    many-known rl rz small short width {p} {base} {m} {q} {r} sa eb sg st er few =
+        row-known (manyOf l z a c d t) pool row small short (width ∙ sym many-width) (
           rl (drop 1 row),
           (
             rz (drop (wide l) (drop 1 row)),
@@ -711,8 +723,6 @@ module _ (l z a c d t : Field) (el : wide l ≡ 0) (ez : wide z ≡ 0) {w : ℕ}
     unfolding Rights wide
     many-held e =
         let h = row-held (manyOf l z a c d t) row pool e in
-        let g : strings pool G X ≡ elements N w element X =
-        group-strings pool (c ∷ d ∷ []) element same N X ∙ ap (λ k. elements N k element X) (sym ew) in
         let r : Rights pool (G ++ t ∷ []) X =
         subst (λ k. Rights pool (repeated k (c ∷ d ∷ []) ++ t ∷ []) X) many-count
         (subst (λ v. Rights pool (repeated (word row (1 + widths (opening (manyOf l z a c d t)))) (c ∷ d ∷ []) ++ t ∷ []) v) at-groups
@@ -724,11 +734,9 @@ module _ (l z a c d t : Field) (el : wide l ≡ 0) (ez : wide z ≡ 0) {w : ℕ}
           first = subst (λ v. flaw pool a v ≡ Right) (at-first l z el ez (drop 1 row)) (h .right .1 .1 .0);
           groups = rights-first pool G (t ∷ []) X r;
           last = subst (λ v. flaw pool t v ≡ Right) at-last (rights-rest pool G (t ∷ []) X r .0);
-          size = omega (arith, h .size, many-length, ap length g);
+          size = omega (arith, h .size, many-length, ap length many-elements);
           few = h .few;
-          made = h .bytes ∙ many-strings
-              ∙ ap (λ v. bytes pool l (drop 1 row)
-              ++ (bytes pool z (drop 1 row) ++ (bytes pool a (drop 1 row) ++ (unsigned N ++ (v ++ bytes pool t Y))))) g;
+          made = h .bytes ∙ many-made;
         }
 
 -- a byte, a count and as many groups
@@ -744,12 +752,12 @@ pub record CountedHeld (lead : ℕ) (c d : Field) (w : ℕ) (element : List ℕ 
 
 module _ (lead : ℕ) (c d : Field) {w : ℕ} (ew : w ≡ widths (c ∷ d ∷ [])) (row pool : List ℕ) {element : List ℕ → List ℕ}
     (same : (ws : List ℕ) → element ws ≡ strings pool (c ∷ d ∷ []) ws) where
-  pub counted-seen : length pool ≤ 65536 → length row ≤ 16384 → length row ≡ 2 + word row 1 * w
+  pub counted-known : length pool ≤ 65536 → length row ≤ 16384 → length row ≡ 2 + word row 1 * w
       → {base r : ℕ} → base ≡ 1 + length (unsigned (word row 1)) → Groups pool (c ∷ d ∷ []) element (word row 1) (drop 2 row) base r
       → r < 2 ^ 32 → measuredRow (Is (manyOf (field.Fixed lead) field.Nothing field.Nothing c d field.Nothing)) row pool ≡ Size r
   unfolding wide flaw bytes
-  counted-seen small short width {base} {r} eb sg few =
-      many-seen (field.Fixed lead) field.Nothing field.Nothing c d field.Nothing refl refl ew row pool same (λ ws. refl) (λ ws. refl) small short
+  counted-known small short width {base} {r} eb sg few =
+      many-known (field.Fixed lead) field.Nothing field.Nothing c d field.Nothing refl refl ew row pool same (λ ws. refl) (λ ws. refl) small short
       (omega arith) (nothing-at pool (drop 1 row)) (omega arith) sg (nothing-at pool (drop (2 + word row 1 * w) row)) (omega arith) few
 
   pub counted-held : {n : ℕ} → measuredRow (Is (manyOf (field.Fixed lead) field.Nothing field.Nothing c d field.Nothing)) row pool ≡ Size n

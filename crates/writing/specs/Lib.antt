@@ -1,1 +1,7 @@
-pub mod Seen
+pub mod Agree
+pub mod Binary
+pub mod Judge
+pub mod Row
+pub mod Sizes
+pub mod Write
+pub mod inside

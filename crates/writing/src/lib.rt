@@ -1,12 +1,20 @@
-// Writing a row in straight code: what every crate of kinds uses. Every call takes every input.
+// Rows to bytes: the walk over a row that finds what is wrong with it, and what the straight code of every kind uses.
+mod judge;
+mod row;
+mod shape;
+mod size;
+mod walk;
+
 use numbers::Stored;
+pub use row::measure_row;
+pub use shape::measure_shape;
 ghost use mathlib.Core.List.{_∷_, [], _++_};
 ghost use mathlib.Core.Path.{_≡_};
 ghost use Rattle.numbers.specs.Bytes.{left, store, partOf};
 ghost use Rattle.numbers.specs.Leb.{unsigned};
 ghost use Rattle.fields.specs.declared.Field.the-variants as field;
-ghost use Rattle.fields.specs.Binary.{primvaltype, valtype};
-ghost use Rattle.writing.specs.Seen.{within, rightSize};
+ghost use Rattle.writing.specs.Binary.{primvaltype, valtype};
+ghost use Rattle.writing.specs.Sizes.{within, rightSize};
 
 // Whether there are bytes, and so many stand within a buffer of `room` bytes from `at` on.
 pub fn fits(size: usize, at: usize, room: usize) -> bool

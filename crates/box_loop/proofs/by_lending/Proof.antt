@@ -42,7 +42,7 @@ use denote.Triple.Walked.{says, Stays, stay-slice, stay-none-slice, walkOf, goes
 use denote.Signature.{plain}
 use Rattle.fields.specs.declared.Answer.{Answer}
 use Rattle.fields.specs.declared.Answer.the-variants.{Size}
-use Rattle.fields.specs.Write.{left}
+use Rattle.fields.specs.Answers.{left}
 use Rattle.fields.proofs.Answer as N
 use Rattle.fields.proofs.Answer.Laws as N′
 use Rattle.sections.specs.declared.Section.{Section}

@@ -7,7 +7,7 @@ use Prim.Native.Nat.{ℕ}
 use mathlib.Core.Path.{_≡_, refl, ap, _∙_}
 use lib.ListN.{getD}
 use Rattle.sections.specs.Section.{knownFamily}
-use Rattle.cabi.specs.Ready.{Ready}
+use Rattle.cabi.specs.inside.Ready.{Ready}
 use Rattle.cabi.proofs.ReadyLaws.{not-ready}
 use Rattle.cabi.proofs.is_ready.Statement.{statement}
 use Rattle.cabi.proofs.is_ready.Tie as tie

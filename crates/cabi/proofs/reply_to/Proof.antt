@@ -1,17 +1,8 @@
 -- `cabi::reply_to` meets its contract: each answer has its number and its value.
 use borrow.Author.Needs.{needs}
-use Rattle.fields.specs.Write.{numberOf, valueOf}
+use Rattle.fields.specs.Answers.{numberOf, valueOf}
 use Rattle.cabi.proofs.reply_to.Statement.{statement}
 use Rattle.cabi.proofs.reply_to.Tie as tie
-
-enum-known-answer : tie.Need-enum-known-answer
-enum-known-answer c = search needs
-
-enum-known-answer-2 : tie.Need-enum-known-answer-2
-enum-known-answer-2 c = search needs
-
-number-of-requires : tie.Need-number-of-requires
-number-of-requires c κs = search needs
 
 returns : tie.Need-returns
 unfolding numberOf valueOf
@@ -23,4 +14,4 @@ returns-2 c = simp (c .before .before .answer2 .given .1, c .number-of .ensures)
 
 pub reply-to-spec : {M : Type 1} → statement M
 reply-to-spec =
-    tie.close (tie.spec enum-known-answer enum-known-answer-2 number-of-requires returns returns-2)
+    tie.close (tie.spec (search needs) (search needs) (λ c κs. search needs) returns returns-2)

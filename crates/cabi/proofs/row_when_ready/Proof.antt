@@ -34,5 +34,5 @@ returns-2 c =
 pub row-when-ready-spec : {M : Type 1} → statement M
 row-when-ready-spec =
     tie.close
-    (tie.spec (search needs) (search needs) (search needs) cast-write-by (search needs) (search needs) add-grown (search needs)
-    (search needs) (search needs) (search needs) returns (search needs) returns-2)
+    (tie.spec (search needs) (search needs) (search needs) cast-write-by (search needs) (search needs) add-grown
+    (search needs) (search needs) (search needs) (search needs) returns (search needs) returns-2)

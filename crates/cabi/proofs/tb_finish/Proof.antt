@@ -4,27 +4,6 @@ use Rattle.cabi.proofs.CallLaws.{finish-taken, finish-refused}
 use Rattle.cabi.proofs.tb_finish.Statement.{statement}
 use Rattle.cabi.proofs.tb_finish.Tie as tie
 
-take-state-requires : tie.Need-take-state-requires
-take-state-requires c κs = search needs
-
-enum-known-s : tie.Need-enum-known-s
-enum-known-s c = search needs
-
-finish-requires : tie.Need-finish-requires
-finish-requires c κs = search needs
-
-reply-to-requires : tie.Need-reply-to-requires
-reply-to-requires c κs = search needs
-
-enum-told : tie.Need-enum-told
-enum-told c = search needs
-
-refuse-requires : tie.Need-refuse-requires
-refuse-requires c κs = search needs
-
-same-length : tie.Need-same-length
-same-length c = search needs
-
 returns : tie.Need-returns
 returns c = let done = c .before .before .before in let arm = done .before .before .before in finish-taken _ _ (arm .before .before .take-state .ensures) (arm .s .given .1) (done .finish .ensures) (c .reply-to .ensures)
 
@@ -34,13 +13,5 @@ returns-2 c = finish-refused _ (c .before .before .before .take-state .ensures) 
 pub tb-finish-spec : {M : Type 1} → statement M
 tb-finish-spec =
     tie.close
-    (tie.spec
-    take-state-requires
-    enum-known-s
-    finish-requires
-    reply-to-requires
-    enum-told
-    refuse-requires
-    same-length
-    returns
-    returns-2)
+    (tie.spec (λ c κs. search needs) (search needs) (λ c κs. search needs) (λ c κs. search needs) (search needs)
+    (λ c κs. search needs) (search needs) returns returns-2)

@@ -4,27 +4,6 @@ use Rattle.cabi.proofs.CallLaws.{step-taken, step-refused}
 use Rattle.cabi.proofs.tb_params.Statement.{statement}
 use Rattle.cabi.proofs.tb_params.Tie as tie
 
-take-state-requires : tie.Need-take-state-requires
-take-state-requires c κs = search needs
-
-enum-known-s : tie.Need-enum-known-s
-enum-known-s c = search needs
-
-params-requires : tie.Need-params-requires
-params-requires c κs = search needs
-
-settle-requires : tie.Need-settle-requires
-settle-requires c κs = search needs
-
-enum-told : tie.Need-enum-told
-enum-told c = search needs
-
-refuse-requires : tie.Need-refuse-requires
-refuse-requires c κs = search needs
-
-same-length : tie.Need-same-length
-same-length c = search needs
-
 returns : tie.Need-returns
 returns c =
     let turn = c .before .before .before .before in
@@ -38,13 +17,5 @@ returns-2 c =
 pub tb-params-spec : {M : Type 1} → statement M
 tb-params-spec =
     tie.close
-    (tie.spec
-    take-state-requires
-    enum-known-s
-    params-requires
-    settle-requires
-    enum-told
-    refuse-requires
-    same-length
-    returns
-    returns-2)
+    (tie.spec (λ c κs. search needs) (search needs) (λ c κs. search needs) (λ c κs. search needs) (search needs)
+    (λ c κs. search needs) (search needs) returns returns-2)

@@ -3,21 +3,9 @@ use borrow.Author.Needs.{needs}
 use Rattle.cabi.proofs.tb_sheet.Statement.{statement}
 use Rattle.cabi.proofs.tb_sheet.Tie as tie
 
-sheet-requires : tie.Need-sheet-requires
-sheet-requires c κs = search needs
-
-reply-to-requires : tie.Need-reply-to-requires
-reply-to-requires c κs = search needs
-
-same-length : tie.Need-same-length
-same-length c = search needs
-
-same-length-2 : tie.Need-same-length-2
-same-length-2 c = search needs
-
 returns : tie.Need-returns
 returns c = simp (← c .before .before .before .before .before .sheet .ensures, c .reply-to .ensures)
 
 pub tb-sheet-spec : {M : Type 1} → statement M
 tb-sheet-spec =
-    tie.close (tie.spec sheet-requires reply-to-requires same-length same-length-2 returns)
+    tie.close (tie.spec (λ c κs. search needs) (λ c κs. search needs) (search needs) (search needs) returns)

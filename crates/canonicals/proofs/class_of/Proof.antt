@@ -1,7 +1,7 @@
 -- `class_of` meets its contract: each arm is a line of the table.
 use borrow.Author.Tests.{ne-eqb}
 use Rattle.fields.specs.Table.{shapeIn}
-use Rattle.canonicals.specs.Class.{shapeFor}
+use Rattle.canonicals.specs.inside.Class.{shapeFor}
 use Rattle.canonicals.proofs.class_of.Statement.{statement}
 use Rattle.canonicals.proofs.class_of.Tie as tie
 

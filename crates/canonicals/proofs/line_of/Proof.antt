@@ -1,6 +1,6 @@
 -- `line_of` meets its contract: each arm is a line of `shapeFor`.
 use mathlib.Core.Path.{_∙_}
-use Rattle.canonicals.specs.Class.{shapeFor}
+use Rattle.canonicals.specs.inside.Class.{shapeFor}
 use borrow.Author.Needs.{needs}
 use Rattle.canonicals.proofs.line_of.Statement.{statement}
 use Rattle.canonicals.proofs.line_of.Tie as tie

@@ -4,7 +4,7 @@ use borrow.Author.Tests.{eq-eqb, ne-eqb}
 use denote.Ref.{now}
 use Rattle.fields.specs.declared.Answer.the-variants.{Size}
 use Rattle.fields.specs.declared.Found.the-variants.{Is}
-use Rattle.fields.specs.Row.{measuredRow}
+use Rattle.writing.specs.Row.{measuredRow}
 use Rattle.canonicals.specs.Write.{measuredCanonical}
 use Rattle.canonicals.proofs.LiftedLaws.{lift-sized}
 use borrow.Author.Needs.{needs}

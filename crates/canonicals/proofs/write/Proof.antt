@@ -2,7 +2,7 @@
 use mathlib.Core.Path.{sym, _∙_}
 use native.Mathlib.Omega.{arith}
 use borrow.Author.Tests.{eq-eqb, ne-eqb}
-use Rattle.fields.specs.Row.{writeRow}
+use Rattle.writing.specs.Row.{writeRow}
 use Rattle.canonicals.specs.Write.{measuredCanonical, canonicalBytes, writeCanonical}
 use borrow.Author.Needs.{needs}
 use Rattle.canonicals.proofs.write.Statement.{statement}

@@ -2,8 +2,8 @@
 use denote.Ref.{now}
 use mathlib.Core.Path.{_≡_, sym, ap, _∙_}
 use Rattle.fields.specs.declared.Found.the-variants.{Is}
-use Rattle.fields.specs.Row.{measuredRow}
-use Rattle.fields.specs.Write.{stored}
+use Rattle.writing.specs.Row.{measuredRow}
+use Rattle.writing.specs.Write.{stored}
 use Rattle.canonicals.specs.Table.{liftShape}
 use Rattle.canonicals.proofs.LiftedLaws.{held-room, held-written, held-roomless}
 use borrow.Author.Needs.{needs}

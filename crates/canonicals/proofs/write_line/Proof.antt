@@ -1,8 +1,8 @@
 -- `write_line` meets its contract: a row that has a size is right (`line-room`), and put it is the row written.
 use denote.Ref.{now}
 use mathlib.Core.Path.{_≡_, sym, ap, _∙_}
-use Rattle.fields.specs.Row.{measuredRow}
-use Rattle.canonicals.specs.Class.{shapeFor}
+use Rattle.writing.specs.Row.{measuredRow}
+use Rattle.canonicals.specs.inside.Class.{shapeFor}
 use Rattle.writing.proofs.RowLaws.{refused-answer}
 use Rattle.canonicals.proofs.ClassLaws.{line-room, line-written, line-roomless}
 use borrow.Author.Needs.{needs}

@@ -21,5 +21,4 @@ returns-2 c = c .measure-row .ensures ∙ rw (c .before .shape-of .ensures, c .b
 
 pub measure-spec : {M : Type 1} → statement M
 measure-spec =
-    tie.close
-    (tie.spec (search needs) (search needs) returns (search needs) (search needs) returns-2)
+    tie.close (tie.spec (search needs) (search needs) returns (search needs) (search needs) returns-2)

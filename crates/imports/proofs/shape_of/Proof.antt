@@ -6,9 +6,6 @@ use borrow.Author.Needs.{needs}
 use Rattle.imports.proofs.shape_of.Statement.{statement}
 use Rattle.imports.proofs.shape_of.Tie as tie
 
-two-of-requires : tie.Need-two-of-requires
-two-of-requires c κs = search needs
-
 returns : tie.Need-returns
 unfolding shapeIn
 returns c = c .two-of .ensures ∙ rw (c .before .match .keys1)
@@ -18,4 +15,4 @@ unfolding shapeIn
 returns-2 c = simp (ne-eqb _ _ (c .match .rest .1))
 
 pub shape-of-spec : {M : Type 1} → statement M
-shape-of-spec = tie.close (tie.spec two-of-requires returns returns-2)
+shape-of-spec = tie.close (tie.spec (λ c κs. search needs) returns returns-2)

@@ -42,7 +42,7 @@ use denote.Triple.Table.{entered, cited}
 use denote.Triple.Walked.{says, Stays, stay-none-ref, stay-none-slice, gave-slice, walkOf, goes-none-ref, goes-none-slice, goes-gave-slice, Walks, ends-at, walked, walk-meets}
 use denote.Signature.{plain}
 use Rattle.fields.specs.declared.Answer.{Answer}
-use Rattle.fields.specs.Write.{left}
+use Rattle.fields.specs.Answers.{left}
 use Rattle.sections.specs.declared.Section.{Section}
 use Rattle.sections.specs.Finish.{finishing}
 use Rattle.sections.proofs.Section as S

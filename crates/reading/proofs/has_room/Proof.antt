@@ -1,6 +1,6 @@
 -- `reading::has_room` meets its contract: the tests are those of `roomy`.
 use borrow.Author.Tests.{lt-ltb, le-ltb}
-use Rattle.reading.specs.Tried.{roomy}
+use Rattle.reading.specs.Seen.{roomy}
 use Rattle.reading.proofs.has_room.Statement.{statement}
 use Rattle.reading.proofs.has_room.Tie as tie
 

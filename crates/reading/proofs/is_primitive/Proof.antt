@@ -1,6 +1,6 @@
 -- `reading::is_primitive` meets its contract: the tests are those of `isPrimitive`.
 use borrow.Author.Tests.{eq-eqb, ne-eqb, lt-ltb, le-ltb}
-use Rattle.reading.specs.Seen.{isPrimitive}
+use Rattle.reading.specs.inside.Steps.{isPrimitive}
 use Rattle.reading.proofs.is_primitive.Statement.{statement}
 use Rattle.reading.proofs.is_primitive.Tie as tie
 

@@ -9,26 +9,8 @@ use Rattle.reading.proofs.LeafLaws.{index-seen, name-fine, name-text, n
 use Rattle.reading.proofs.name.Statement.{statement}
 use Rattle.reading.proofs.name.Tie as tie
 
-seen-unsigned-requires : tie.Need-seen-unsigned-requires
-seen-unsigned-requires c κs = search needs
-
-cast-end : tie.Need-cast-end
-cast-end c = search needs
-
 add-end : tie.Need-add-end
 add-end c = let size = index-seen _ _ (c .before .before .seen-unsigned .ensures) (c .before .if1 .taken) in omega arith
-
-sub-is-text : tie.Need-sub-is-text
-sub-is-text c = search needs
-
-part-is-text-start : tie.Need-part-is-text-start
-part-is-text-start c = search needs
-
-part-is-text-end : tie.Need-part-is-text-end
-part-is-text-end c = search needs
-
-is-text-requires : tie.Need-is-text-requires
-is-text-requires c κs = search needs
 
 cast-t13 : tie.Need-cast-t13
 cast-t13 c =
@@ -42,9 +24,6 @@ returns c =
     name-fine _ _ (mid .before .seen-unsigned .ensures) (mid .if1 .taken) (c .before .before .before .if2 .taken)
     (simp add-sub-cancel-left at (sym (c .before .is-text .ensures)) ∙ c .if3 .taken)
 
-no-pair-requires : tie.Need-no-pair-requires
-no-pair-requires c κs = search needs
-
 returns-2 : tie.Need-returns-2
 returns-2 c =
     let seen = c .before .before .seen-unsigned .ensures in
@@ -57,15 +36,5 @@ returns-2 c =
 pub name-spec : {M : Type 1} → statement M
 name-spec =
     tie.close
-    (tie.spec
-    seen-unsigned-requires
-    cast-end
-    add-end
-    sub-is-text
-    part-is-text-start
-    part-is-text-end
-    is-text-requires
-    cast-t13
-    returns
-    no-pair-requires
-    returns-2)
+    (tie.spec (λ c κs. search needs) (search needs) add-end (search needs) (search needs) (search needs)
+    (λ c κs. search needs) cast-t13 returns (λ c κs. search needs) returns-2)

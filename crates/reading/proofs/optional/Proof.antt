@@ -7,26 +7,12 @@ use mathlib.Core.Path.{ap, _∙_}
 use mathlib.Core.List.{List}
 use Rattle.numbers.proofs.BytesLaws.{to-end}
 use Rattle.fields.specs.declared.Field.the-variants as field
-use Rattle.reading.specs.Seen.{pair, behindOne}
+use Rattle.reading.specs.Seen.{pair}
+use Rattle.reading.specs.inside.Steps.{behindOne}
 use Rattle.reading.proofs.ValueLaws.{value-short, optional-empty, optional-some, optional-none, optional-other}
 use borrow.Author.Needs.{needs}
 use Rattle.reading.proofs.optional.Statement.{statement}
 use Rattle.reading.proofs.optional.Tie as tie
-
-shared-slice-read-b : tie.Need-shared-slice-read-b
-shared-slice-read-b c = search needs
-
-sub-value : tie.Need-sub-value
-sub-value c = search needs
-
-part-value-start : tie.Need-part-value-start
-part-value-start c = search needs
-
-part-value-end : tie.Need-part-value-end
-part-value-end c = search needs
-
-value-requires : tie.Need-value-requires
-value-requires c κs = search needs
 
 behind-requires : tie.Need-behind-requires
 behind-requires c κs = value-short _ _ _ (c .value .ensures)
@@ -45,9 +31,6 @@ returns-2 c =
     let a = c .before .before .before .before .before .args in
     optional-none (a .grade) (now (a .bs)) (c .before .before .before .if1 .taken) (c .if3 .taken)
 
-no-pair-requires : tie.Need-no-pair-requires
-no-pair-requires c κs = search needs
-
 returns-3 : tie.Need-returns-3
 returns-3 c =
     let a = c .before .before .before .args in
@@ -59,14 +42,5 @@ returns-3 c =
 pub optional-spec : {M : Type 1} → statement M
 optional-spec =
     tie.close
-    (tie.spec
-    shared-slice-read-b
-    sub-value
-    part-value-start
-    part-value-end
-    value-requires
-    behind-requires
-    returns
-    returns-2
-    no-pair-requires
-    returns-3)
+    (tie.spec (search needs) (search needs) (search needs) (search needs) (λ c κs. search needs) behind-requires
+    returns returns-2 (λ c κs. search needs) returns-3)

@@ -6,15 +6,6 @@ use Rattle.reading.proofs.LeafLaws.{primitive-none, primitive-is, primi
 use Rattle.reading.proofs.primitive.Statement.{statement}
 use Rattle.reading.proofs.primitive.Tie as tie
 
-shared-slice-read-b : tie.Need-shared-slice-read-b
-shared-slice-read-b c = search needs
-
-is-primitive-requires : tie.Need-is-primitive-requires
-is-primitive-requires c κs = search needs
-
-primitive-of-requires : tie.Need-primitive-of-requires
-primitive-of-requires c κs = search needs
-
 returns : tie.Need-returns
 returns c =
     let mid = c .before .before in
@@ -29,11 +20,4 @@ returns-3 c = primitive-none _ _ (c .if1 .left)
 
 pub primitive-spec : {M : Type 1} → statement M
 primitive-spec =
-    tie.close
-    (tie.spec
-    shared-slice-read-b
-    is-primitive-requires
-    primitive-of-requires
-    returns
-    returns-2
-    returns-3)
+    tie.close (tie.spec (search needs) (λ c κs. search needs) (λ c κs. search needs) returns returns-2 returns-3)

@@ -3,19 +3,13 @@
 use native.Mathlib.Omega.{arith}
 use borrow.Author.Needs.{needs}
 use borrow.Author.Tests.{eq-eqb, ne-eqb}
-use Rattle.fields.specs.Fill.{primitive}
+use Rattle.reading.specs.Fill.{primitive}
 use Rattle.reading.proofs.primitive_of.Statement.{statement}
 use Rattle.reading.proofs.primitive_of.Tie as tie
 
 returns : tie.Need-returns
 unfolding primitive
 returns c = simp (eq-eqb _ _ (c .if1 .taken))
-
-sub-result : tie.Need-sub-result
-sub-result c = search needs
-
-cast-result : tie.Need-cast-result
-cast-result c = search needs
 
 returns-2 : tie.Need-returns-2
 unfolding primitive
@@ -26,4 +20,4 @@ unfolding primitive
 returns-3 c = rw (ne-eqb _ _ (c .before .if1 .left)) (omega (arith, c .if2 .left))
 
 pub primitive-of-spec : {M : Type 1} → statement M
-primitive-of-spec = tie.close (tie.spec returns sub-result cast-result returns-2 returns-3)
+primitive-of-spec = tie.close (tie.spec returns (search needs) (search needs) returns-2 returns-3)

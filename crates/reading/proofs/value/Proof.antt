@@ -6,16 +6,10 @@ use borrow.Author.Needs.{needs}
 use Rattle.reading.proofs.value.Statement.{statement}
 use Rattle.reading.proofs.value.Tie as tie
 
-seen-signed-requires : tie.Need-seen-signed-requires
-seen-signed-requires c κs = search needs
-
 returns : tie.Need-returns
 returns c =
     let a = c .before .before .before .before .args in
     seen-index (a .grade) (now (a .bs)) _ (c .before .before .seen-signed .ensures) (c .if1 .taken)
-
-primitive-requires : tie.Need-primitive-requires
-primitive-requires c κs = search needs
 
 returns-2 : tie.Need-returns-2
 returns-2 c =
@@ -23,4 +17,4 @@ returns-2 c =
     seen-other (a .grade) (now (a .bs)) _ _ (c .before .before .before .seen-signed .ensures) (c .before .if1 .left) (c .primitive .ensures)
 
 pub value-spec : {M : Type 1} → statement M
-value-spec = tie.close (tie.spec seen-signed-requires returns primitive-requires returns-2)
+value-spec = tie.close (tie.spec (λ c κs. search needs) returns (λ c κs. search needs) returns-2)

@@ -5,13 +5,10 @@ use native.Mathlib.Omega.{arith}
 use Prim.Native.Nat.{_+_}
 use mathlib.Core.Path.{sym, ap, _∙_}
 use lib.ListN.{length}
-use Rattle.fields.specs.Write.{left}
+use Rattle.fields.specs.Answers.{left}
 use Rattle.sections.proofs.FrameLaws.{number-size, frame-size, frame-too-big, frame-no-room, frame-fits}
 use Rattle.sections.proofs.frame.Statement.{statement}
 use Rattle.sections.proofs.frame.Tie as tie
-
-unsigned-size-requires : tie.Need-unsigned-size-requires
-unsigned-size-requires c κs = search needs
 
 sub-if1 : tie.Need-sub-if1
 sub-if1 c = omega (arith, number-size (c .before .before .before .args .count))
@@ -21,14 +18,8 @@ returns c =
     let a = c .before .before .before .before .args in
     sym (frame-too-big (a .family) (a .count) _ _ (c .before .unsigned-size .ensures) (c .if1 .taken))
 
-add-size : tie.Need-add-size
-add-size c = search needs
-
 cast-unsigned-size : tie.Need-cast-unsigned-size
 cast-unsigned-size c = omega (arith, number-size (c .before .before .before .before .args .count))
-
-unsigned-size-requires-2 : tie.Need-unsigned-size-requires-2
-unsigned-size-requires-2 c κs = search needs
 
 add-all : tie.Need-add-all
 add-all c =
@@ -50,9 +41,6 @@ returns-2 c =
     (frame-no-room (a .family) (a .count) _ _ (counted .unsigned-size .ensures) (sized .before .if1 .left)
     (sized .unsigned-size2 .ensures) (c .if2 .taken))
 
-cast-put-frame : tie.Need-cast-put-frame
-cast-put-frame c = search needs
-
 cast-put-frame-2 : tie.Need-cast-put-frame-2
 cast-put-frame-2 c = omega (arith, number-size (c .before .before .before .before .before .before .args .count))
 
@@ -61,9 +49,6 @@ put-frame-requires c κs =
     let counted = c .before .before .before .before in
     let a = counted .before .before .before .args in
     omega (arith, frame-size (a .family) (counted .unsigned-size .result + length (now (a .body))) (a .count) (now (a .body)))
-
-same-length : tie.Need-same-length
-same-length c = search needs
 
 returns-3 : tie.Need-returns-3
 returns-3 c =
@@ -80,18 +65,5 @@ returns-3 c =
 pub frame-spec : {M : Type 1} → statement M
 frame-spec =
     tie.close
-    (tie.spec
-    unsigned-size-requires
-    sub-if1
-    returns
-    add-size
-    cast-unsigned-size
-    unsigned-size-requires-2
-    add-all
-    add-all-2
-    returns-2
-    cast-put-frame
-    cast-put-frame-2
-    put-frame-requires
-    same-length
-    returns-3)
+    (tie.spec (λ c κs. search needs) sub-if1 returns (search needs) cast-unsigned-size (λ c κs. search needs) add-all
+    add-all-2 returns-2 (search needs) cast-put-frame-2 put-frame-requires (search needs) returns-3)

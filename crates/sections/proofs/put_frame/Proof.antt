@@ -9,26 +9,11 @@ use Rattle.sections.proofs.FrameLaws.{stored-small, frame-stored}
 use Rattle.sections.proofs.put_frame.Statement.{statement}
 use Rattle.sections.proofs.put_frame.Tie as tie
 
-slice-write-out : tie.Need-slice-write-out
-slice-write-out c = search needs
-
-put-unsigned-requires : tie.Need-put-unsigned-requires
-put-unsigned-requires c κs = search needs
-
-stored-size-requires : tie.Need-stored-size-requires
-stored-size-requires c κs = search needs
-
 add-counted : tie.Need-add-counted
 add-counted c =
     let put = c .before .before .before in
     let a = put .before .before .before .before .args in
     omega (arith, stored-small (a .size) _ _ (put .put-unsigned .ensures) (c .stored-size .ensures))
-
-put-unsigned-requires-2 : tie.Need-put-unsigned-requires-2
-put-unsigned-requires-2 c κs = search needs
-
-stored-size-requires-2 : tie.Need-stored-size-requires-2
-stored-size-requires-2 c κs = search needs
 
 add-start : tie.Need-add-start
 add-start c =
@@ -41,9 +26,6 @@ add-start c =
       stored-small (a .size) _ _ (first .put-unsigned .ensures) (counted .stored-size .ensures),
       stored-small (a .count) _ _ (second .put-unsigned2 .ensures) (c .stored-size2 .ensures),
     )
-
-copy-requires : tie.Need-copy-requires
-copy-requires c κs = search needs
 
 returns : tie.Need-returns
 returns c =
@@ -65,14 +47,5 @@ same-length c = ap length (returns c) ∙ simp (length-sets, length-set)
 pub put-frame-spec : {M : Type 1} → statement M
 put-frame-spec =
     tie.close
-    (tie.spec
-    slice-write-out
-    put-unsigned-requires
-    stored-size-requires
-    add-counted
-    put-unsigned-requires-2
-    stored-size-requires-2
-    add-start
-    copy-requires
-    same-length
-    returns)
+    (tie.spec (search needs) (λ c κs. search needs) (λ c κs. search needs) add-counted (λ c κs. search needs)
+    (λ c κs. search needs) add-start (λ c κs. search needs) same-length returns)

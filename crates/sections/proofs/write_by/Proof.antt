@@ -25,12 +25,17 @@ unfolding writeFamily
 returns-3 c =
     let wrote = c .before .before in
     let test = wrote .before .before .before .before in
-    simp (ne-eqb _ _ (test .before .if1 .left), ne-eqb _ _ (test .if2 .left)) (rw (to-end _ 0, to-end _ 0) at (wrote .write3 .ensures))
+    simp (ne-eqb _ _ (test .before .before .if1 .left), ne-eqb _ _ (test .before .if2 .left), eq-eqb _ _ (test .if3 .taken))
+    (rw (to-end _ 0, to-end _ 0) at (wrote .write3 .ensures))
+
+returns-4 : tie.Need-returns-4
+unfolding writeFamily
+returns-4 c = simp (ne-eqb _ _ (c .before .before .if1 .left), ne-eqb _ _ (c .before .if2 .left), ne-eqb _ _ (c .if3 .left))
 
 pub write-by-spec : {M : Type 1} → statement M
 write-by-spec =
     tie.close
-    (tie.spec
-    (search needs) (search needs) (search needs) (search needs) (search needs) (search needs) (search needs) (search needs) returns
-    (search needs) (search needs) (search needs) (search needs) (search needs) (search needs) (search needs) (search needs) returns-2
-    (search needs) (search needs) (search needs) (search needs) (search needs) (search needs) (search needs) (search needs) returns-3)
+    (tie.spec (search needs) (search needs) (search needs) (search needs) (search needs) (search needs) (search needs)
+    (search needs) returns (search needs) (search needs) (search needs) (search needs) (search needs) (search needs)
+    (search needs) (search needs) returns-2 (search needs) (search needs) (search needs) (search needs) (search needs)
+    (search needs) (search needs) (search needs) returns-3 returns-4)

@@ -15,9 +15,6 @@ number-at-requires c κs =
 returns : tie.Need-returns
 returns c = family-none _ _ _ (c .before .number-at .ensures) (c .if1 .taken)
 
-add-number-at : tie.Need-add-number-at
-add-number-at c = search needs
-
 number-at-requires-2 : tie.Need-number-at-requires-2
 number-at-requires-2 c κs =
     let b = c .before .before .before in
@@ -50,12 +47,4 @@ returns-4 c =
 
 pub family-at-spec : {M : Type 1} → statement M
 family-at-spec =
-    tie.close
-    (tie.spec
-    number-at-requires
-    returns
-    add-number-at
-    number-at-requires-2
-    returns-2
-    returns-3
-    returns-4)
+    tie.close (tie.spec number-at-requires returns (search needs) number-at-requires-2 returns-2 returns-3 returns-4)

@@ -63,17 +63,5 @@ returns c =
 pub fill-words-spec : {M : Type 1} → statement M
 fill-words-spec =
     tie.close
-    (tie.spec
-    Inv-loop
-    μ-loop
-    loop-holds
-    mul-number-at
-    add-number-at
-    number-at-requires
-    mul-row
-    slice-write-row
-    add-i
-    loop-less
-    loop-again
-    same-length
-    returns)
+    (tie.spec Inv-loop μ-loop loop-holds mul-number-at add-number-at number-at-requires mul-row slice-write-row add-i
+    loop-less loop-again same-length returns)

@@ -6,7 +6,7 @@ use mathlib.Core.Path.{_≡_, refl, sym, ap, _∙_}
 use borrow.Author.Needs.{needs}
 use denote.Ref.{now}
 use lib.ListN.{length}
-use Rattle.sheets.specs.Steps.{rest, whole}
+use Rattle.sheets.specs.inside.Steps.{rest, whole}
 use Rattle.sheets.proofs.FrameLaws.{rest-done, rest-short, rest-long, whole-one}
 use Rattle.sheets.proofs.is_framed.Statement.{statement}
 use Rattle.sheets.proofs.is_framed.Tie as tie
@@ -31,9 +31,6 @@ returns c =
 
 number-at-requires : tie.Need-number-at-requires Inv-loop μ-loop
 number-at-requires c κs = omega arith
-
-cast-n : tie.Need-cast-n Inv-loop μ-loop
-cast-n c = search needs
 
 sub-if2 : tie.Need-sub-if2 Inv-loop μ-loop
 sub-if2 c = omega arith
@@ -76,20 +73,5 @@ returns-3 c =
 pub is-framed-spec : {M : Type 1} → statement M
 is-framed-spec =
     tie.close
-    (tie.spec
-    Inv-loop
-    μ-loop
-    loop-holds
-    sub-if1
-    returns
-    number-at-requires
-    cast-n
-    sub-if2
-    sub-if2-2
-    returns-2
-    mul-at
-    add-at
-    add-at-2
-    loop-less
-    loop-again
-    returns-3)
+    (tie.spec Inv-loop μ-loop loop-holds sub-if1 returns number-at-requires (search needs) sub-if2 sub-if2-2 returns-2
+    mul-at add-at add-at-2 loop-less loop-again returns-3)

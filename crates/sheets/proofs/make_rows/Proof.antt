@@ -123,36 +123,7 @@ returns-5 c = make-end _ _ _ _ _ (c .before .loop .inv) (c .loop-test .left)
 pub make-rows-spec : {M : Type 1} → statement M
 make-rows-spec =
     tie.close
-    (tie.spec
-    Inv-loop
-    μ-loop
-    loop-holds
-    add-first
-    (search needs)
-    (search needs)
-    cast-end
-    add-end
-    (search needs)
-    sub-write-by
-    part-write-by-start
-    part-write-by-end
-    (search needs)
-    (search needs)
-    sub-if1
-    same-length
-    returns
-    add-used
-    (search needs)
-    (search needs)
-    same-length-2
-    returns-2
-    sub-if3
-    same-length-3
-    returns-3
-    same-length-4
-    (search needs)
-    add-rows
-    loop-less
-    loop-again
-    same-length-5
-    returns-5)
+    (tie.spec Inv-loop μ-loop loop-holds add-first (search needs) (search needs) cast-end add-end (search needs)
+    sub-write-by part-write-by-start part-write-by-end (search needs) (search needs) sub-if1 same-length returns
+    add-used (search needs) (search needs) same-length-2 returns-2 sub-if3 same-length-3 returns-3 same-length-4
+    (search needs) add-rows loop-less loop-again same-length-5 returns-5)

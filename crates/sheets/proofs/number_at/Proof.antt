@@ -6,20 +6,11 @@ use Rattle.sheets.specs.Frame.{number}
 use Rattle.sheets.proofs.number_at.Statement.{statement}
 use Rattle.sheets.proofs.number_at.Tie as tie
 
-shared-slice-read-high : tie.Need-shared-slice-read-high
-shared-slice-read-high c = search needs
-
 cast-high : tie.Need-cast-high
 cast-high c = omega (arith, c .shared-slice-known .given (c .before .args .at))
 
 mul-high : tie.Need-mul-high
 mul-high c = omega (arith, c .shared-slice-known .given (c .before .args .at))
-
-add-high : tie.Need-add-high
-add-high c = search needs
-
-shared-slice-read-high-2 : tie.Need-shared-slice-read-high-2
-shared-slice-read-high-2 c = search needs
 
 cast-high-2 : tie.Need-cast-high-2
 cast-high-2 c = omega (arith, c .shared-slice-known2 .given (c .before .before .args .at + 1))
@@ -36,12 +27,6 @@ mul-result c =
     let byte = c .shared-slice-known2 .given in
     omega (arith, byte at, byte (at + 1))
 
-add-result : tie.Need-add-result
-add-result c = search needs
-
-shared-slice-read-result : tie.Need-shared-slice-read-result
-shared-slice-read-result c = search needs
-
 cast-result : tie.Need-cast-result
 cast-result c = omega (arith, c .shared-slice-known3 .given (c .before .before .before .args .at + 2))
 
@@ -56,12 +41,6 @@ mul-result-2 c =
     let at = c .before .before .before .args .at in
     let byte = c .shared-slice-known3 .given in
     omega (arith, byte at, byte (at + 1), byte (at + 2))
-
-add-result-3 : tie.Need-add-result-3
-add-result-3 c = search needs
-
-shared-slice-read-result-2 : tie.Need-shared-slice-read-result-2
-shared-slice-read-result-2 c = search needs
 
 cast-result-2 : tie.Need-cast-result-2
 cast-result-2 c = omega (arith, c .shared-slice-known4 .given (c .before .before .before .before .args .at + 3))
@@ -79,22 +58,6 @@ returns c = omega arith
 pub number-at-spec : {M : Type 1} → statement M
 number-at-spec =
     tie.close
-    (tie.spec
-    shared-slice-read-high
-    cast-high
-    mul-high
-    add-high
-    shared-slice-read-high-2
-    cast-high-2
-    add-high-2
-    mul-result
-    add-result
-    shared-slice-read-result
-    cast-result
-    add-result-2
-    mul-result-2
-    add-result-3
-    shared-slice-read-result-2
-    cast-result-2
-    add-result-4
-    returns)
+    (tie.spec (search needs) cast-high mul-high (search needs) (search needs) cast-high-2 add-high-2 mul-result
+    (search needs) (search needs) cast-result add-result-2 mul-result-2 (search needs) (search needs) cast-result-2
+    add-result-4 returns)

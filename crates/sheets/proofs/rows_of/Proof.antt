@@ -10,31 +10,13 @@ use Rattle.sheets.proofs.rows_of.Tie as tie
 returns : tie.Need-returns
 returns c = frame-cut _ (c .if1 .taken)
 
-shared-slice-read-if2 : tie.Need-shared-slice-read-if2
-shared-slice-read-if2 c = search needs
-
 returns-2 : tie.Need-returns-2
 returns-2 c = frame-version _ (omega arith) (c .if2 .taken)
-
-number-at-requires : tie.Need-number-at-requires
-number-at-requires c κs = search needs
-
-cast-size : tie.Need-cast-size
-cast-size c = search needs
-
-sub-if3 : tie.Need-sub-if3
-sub-if3 c = search needs
 
 returns-3 : tie.Need-returns-3
 returns-3 c =
     let version = c .before .before .if2 .left in
     frame-empty _ _ (ap (λ n. 5 + n) (c .before .number-at .ensures)) (omega arith) version (omega arith)
-
-add-start : tie.Need-add-start
-add-start c = search needs
-
-is-framed-requires : tie.Need-is-framed-requires
-is-framed-requires c κs = search needs
 
 returns-4 : tie.Need-returns-4
 returns-4 c =
@@ -51,15 +33,5 @@ returns-5 c =
 pub rows-of-spec : {M : Type 1} → statement M
 rows-of-spec =
     tie.close
-    (tie.spec
-    returns
-    shared-slice-read-if2
-    returns-2
-    number-at-requires
-    cast-size
-    sub-if3
-    returns-3
-    add-start
-    is-framed-requires
-    returns-4
-    returns-5)
+    (tie.spec returns (search needs) returns-2 (λ c κs. search needs) (search needs) (search needs) returns-3
+    (search needs) (λ c κs. search needs) returns-4 returns-5)

@@ -13,17 +13,11 @@ use Rattle.sheets.proofs.section_size.Tie as tie
 abbrev sized : ℕ → ℕ → ℕ
 sized k used = 1 + length (unsigned (k + used)) + (k + used)
 
-unsigned-size-requires : tie.Need-unsigned-size-requires
-unsigned-size-requires c κs = search needs
-
 add-size : tie.Need-add-size
 add-size c = omega (arith, c .unsigned-size .ensures, size-bounds 128 (c .before .args .rows))
 
 cast-unsigned-size : tie.Need-cast-unsigned-size
 cast-unsigned-size c = omega (arith, c .unsigned-size .ensures, size-bounds 128 (c .before .args .rows))
-
-unsigned-size-requires-2 : tie.Need-unsigned-size-requires-2
-unsigned-size-requires-2 c κs = search needs
 
 add-result : tie.Need-add-result
 add-result c = omega (arith, c .unsigned-size2 .ensures, size-bounds 128 (c .before .unsigned-size .result + c .before .before .args .used))
@@ -48,11 +42,5 @@ returns c =
 pub section-size-spec : {M : Type 1} → statement M
 section-size-spec =
     tie.close
-    (tie.spec
-    unsigned-size-requires
-    add-size
-    cast-unsigned-size
-    unsigned-size-requires-2
-    add-result
-    add-result-2
+    (tie.spec (λ c κs. search needs) add-size cast-unsigned-size (λ c κs. search needs) add-result add-result-2
     returns)

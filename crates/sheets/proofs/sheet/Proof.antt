@@ -4,7 +4,7 @@ use borrow.Author.Needs.{needs}
 use borrow.Author.Tests.{lt-ltb, le-ltb}
 use denote.Ref.{now}
 use Rattle.sheets.specs.Sheet.{sheeted}
-use Rattle.sheets.specs.Steps.{Starts}
+use Rattle.sheets.specs.inside.Steps.{Starts}
 use Rattle.sheets.proofs.sheet.Statement.{statement}
 use Rattle.sheets.proofs.sheet.Tie as tie
 
@@ -12,26 +12,11 @@ returns : tie.Need-returns
 unfolding sheeted
 returns c = simp (lt-ltb _ _ (c .if1 .taken))
 
-rows-of-requires : tie.Need-rows-of-requires
-rows-of-requires c κs = search needs
-
-enum-known-start : tie.Need-enum-known-start
-enum-known-start c = search needs
-
 sheet-sized-requires : tie.Need-sheet-sized-requires
 sheet-sized-requires c κs =
     let r = c .before .before .before .before .before in
     let a = r .before .before .before .before .before .args in
     (subst (λ x. Starts x (now (a .input))) (c .before .before .before .start .given .1) (r .rows-of .ensures), r .before .if1 .left)
-
-enum-told : tie.Need-enum-told
-enum-told c = search needs
-
-same-length : tie.Need-same-length
-same-length c = search needs
-
-same-length-2 : tie.Need-same-length-2
-same-length-2 c = search needs
 
 returns-2 : tie.Need-returns-2
 unfolding sheeted
@@ -48,13 +33,5 @@ returns-3 c =
 pub sheet-spec : {M : Type 1} → statement M
 sheet-spec =
     tie.close
-    (tie.spec
-    returns
-    rows-of-requires
-    enum-known-start
-    sheet-sized-requires
-    enum-told
-    same-length
-    same-length-2
-    returns-2
-    returns-3)
+    (tie.spec returns (λ c κs. search needs) (search needs) sheet-sized-requires (search needs) (search needs)
+    (search needs) returns-2 returns-3)

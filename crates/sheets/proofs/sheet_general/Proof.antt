@@ -5,7 +5,7 @@ use mathlib.Core.Path.{_≡_, sym, _∙_, subst}
 use borrow.Author.Needs.{needs}
 use denote.Ref.{now}
 use Rattle.fields.specs.declared.Leaf.the-variants.{Fine}
-use Rattle.sheets.specs.Steps.{Passed}
+use Rattle.sheets.specs.inside.Steps.{Passed}
 use Rattle.sheets.proofs.FinishLaws.{words-refused, few, words-cramped, words-finished}
 use Rattle.sheets.proofs.sheet_general.Statement.{statement}
 use Rattle.sheets.proofs.sheet_general.Tie as tie
@@ -58,17 +58,5 @@ returns-3 c =
 pub sheet-general-spec : {M : Type 1} → statement M
 sheet-general-spec =
     tie.close
-    (tie.spec
-    (λ c κs. search needs)
-    (search needs)
-    cast-section-size
-    section-size-requires
-    returns
-    write-rows-requires
-    cast-close
-    (search needs)
-    (search needs)
-    (search needs)
-    (search needs)
-    returns-2
-    returns-3)
+    (tie.spec (λ c κs. search needs) (search needs) cast-section-size section-size-requires returns
+    write-rows-requires cast-close (search needs) (search needs) (search needs) (search needs) returns-2 returns-3)

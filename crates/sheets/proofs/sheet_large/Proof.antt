@@ -3,23 +3,6 @@ use borrow.Author.Needs.{needs}
 use Rattle.sheets.proofs.sheet_large.Statement.{statement}
 use Rattle.sheets.proofs.sheet_large.Tie as tie
 
-slice-aggregate-sheet-rows : tie.Need-slice-aggregate-sheet-rows
-slice-aggregate-sheet-rows c = search needs
-
-slice-aggregate-sheet-rows-2 : tie.Need-slice-aggregate-sheet-rows-2
-slice-aggregate-sheet-rows-2 c = search needs
-
-sheet-rows-requires : tie.Need-sheet-rows-requires
-sheet-rows-requires c κs = search needs
-
-same-length : tie.Need-same-length
-same-length c = search needs
-
-same-length-2 : tie.Need-same-length-2
-same-length-2 c = search needs
-
-returns : tie.Need-returns
-returns c = search needs
-
 pub sheet-large-spec : {M : Type 1} → statement M
-sheet-large-spec = tie.close (tie.spec slice-aggregate-sheet-rows slice-aggregate-sheet-rows-2 sheet-rows-requires same-length same-length-2 returns)
+sheet-large-spec = tie.close
+    (tie.spec (search needs) (search needs) (λ c κs. search needs) (search needs) (search needs) (λ c. search needs))

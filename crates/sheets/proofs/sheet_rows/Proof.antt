@@ -6,7 +6,8 @@ use borrow.Author.Needs.{needs}
 use denote.Ref.{now}
 use lib.ListN.{length, take}
 use lib.Seq.{length-take-le}
-use Rattle.sheets.specs.Steps.{rest, listed}
+use Rattle.sheets.specs.inside.Steps.{rest}
+use Rattle.sheets.specs.Frame.{listed}
 use Rattle.sheets.proofs.FinishLaws.{rows-lie, sheet-words, sheet-left}
 use Rattle.sheets.proofs.LaidLaws.{Lies}
 use Rattle.sheets.proofs.sheet_rows.Statement.{statement}
@@ -38,18 +39,6 @@ returns c =
 pub sheet-rows-spec : {M : Type 1} → statement M
 sheet-rows-spec =
     tie.close
-    (tie.spec
-    (λ c κs. search needs)
-    (search needs)
-    (search needs)
-    (search needs)
-    slice-aggregate-sheet-words
-    (search needs)
-    (search needs)
-    (search needs)
-    sheet-words-requires
-    (search needs)
-    (search needs)
-    (search needs)
-    (search needs)
-    returns)
+    (tie.spec (λ c κs. search needs) (search needs) (search needs) (search needs) slice-aggregate-sheet-words
+    (search needs) (search needs) (search needs) sheet-words-requires (search needs) (search needs) (search needs)
+    (search needs) returns)

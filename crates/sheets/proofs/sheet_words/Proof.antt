@@ -8,7 +8,7 @@ use lib.ListN.{length}
 use lib.Seq.{length-take-le}
 use Rattle.sheets.specs.declared.Made.{Made}
 use Rattle.sheets.specs.declared.Made.the-variants.{All}
-use Rattle.sheets.specs.Steps.{rowsIn, Makes}
+use Rattle.sheets.specs.inside.Steps.{rowsIn, Makes}
 use Rattle.sheets.proofs.FinishLaws.{words-refused, few, words-cramped, words-copied, words-finished}
 use Rattle.sheets.proofs.sheet_words.Statement.{statement}
 use Rattle.sheets.proofs.sheet_words.Tie as tie
@@ -71,27 +71,7 @@ returns-3 c =
 pub sheet-words-spec : {M : Type 1} → statement M
 sheet-words-spec =
     tie.close
-    (tie.spec
-    (λ c κs. search needs)
-    (search needs)
-    cast-count
-    section-size-requires
-    (search needs)
-    returns
-    slice-reshare-prefix-copy
-    slice-aggregate-copy
-    (search needs)
-    (search needs)
-    (search needs)
-    (search needs)
-    (λ c κs. search needs)
-    (search needs)
-    (search needs)
-    (search needs)
-    returns-2
-    (search needs)
-    returns-3
-    (search needs)
-    (search needs)
-    (search needs)
-    (λ c. search needs))
+    (tie.spec (λ c κs. search needs) (search needs) cast-count section-size-requires (search needs) returns
+    slice-reshare-prefix-copy slice-aggregate-copy (search needs) (search needs) (search needs) (search needs)
+    (λ c κs. search needs) (search needs) (search needs) (search needs) returns-2 (search needs) returns-3
+    (search needs) (search needs) (search needs) (λ c. search needs))

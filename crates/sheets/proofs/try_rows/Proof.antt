@@ -87,27 +87,6 @@ returns-3 c = try-end _ _ _ _ (c .before .loop .inv) (c .loop-test .left)
 pub try-rows-spec : {M : Type 1} → statement M
 try-rows-spec =
     tie.close
-    (tie.spec
-    Inv-loop
-    μ-loop
-    loop-holds
-    add-first
-    (search needs)
-    (search needs)
-    cast-end
-    add-end
-    (search needs)
-    sub-measure-by
-    part-measure-by-start
-    part-measure-by-end
-    (search needs)
-    (search needs)
-    sub-if1
-    returns
-    add-used
-    (search needs)
-    returns-2
-    add-rows
-    loop-less
-    loop-again
-    returns-3)
+    (tie.spec Inv-loop μ-loop loop-holds add-first (search needs) (search needs) cast-end add-end (search needs)
+    sub-measure-by part-measure-by-start part-measure-by-end (search needs) (search needs) sub-if1 returns add-used
+    (search needs) returns-2 add-rows loop-less loop-again returns-3)

@@ -25,12 +25,4 @@ returns-2 c =
 pub write-one-spec : {M : Type 1} → statement M
 write-one-spec =
     tie.close
-    (tie.spec
-    (search needs)
-    (search needs)
-    add-result
-    (search needs)
-    (search needs)
-    returns
-    (search needs)
-    returns-2)
+    (tie.spec (search needs) (search needs) add-result (search needs) (search needs) returns (search needs) returns-2)

@@ -64,21 +64,5 @@ returns c = write-end _ _ _ _ (c .before .loop .inv) (c .loop-test .left)
 pub write-rows-spec : {M : Type 1} → statement M
 write-rows-spec =
     tie.close
-    (tie.spec
-    Inv-loop
-    μ-loop
-    loop-holds
-    add-first
-    (search needs)
-    (search needs)
-    cast-end
-    add-end
-    (search needs)
-    sub-write-one
-    part-write-one-start
-    part-write-one-end
-    write-one-requires
-    loop-less
-    loop-again
-    same-length
-    returns)
+    (tie.spec Inv-loop μ-loop loop-holds add-first (search needs) (search needs) cast-end add-end (search needs)
+    sub-write-one part-write-one-start part-write-one-end write-one-requires loop-less loop-again same-length returns)

@@ -1,8 +1,11 @@
--- `try_steps::run` is safe and ends: the lent buffers keep their lengths, and each line leaves less of the input.
+-- `try_steps::run` is safe and ends: the lent buffers keep their lengths, and each line leaves less of the input, within which it ends
+-- (`next-within`).
 use Prim.Native.Nat.{_-_}
+use native.Mathlib.Omega.{arith}
 use mathlib.Core.Path.{_≡_}
-use lib.ListN.{length}
 use borrow.Author.Needs.{needs}
+use lib.ListN.{length}
+use Rattle.telling.proofs.LineLaws.{next-within}
 use Rattle.try_steps.proofs.run.Statement.{statement}
 use Rattle.try_steps.proofs.run.Tie as tie
 
@@ -12,61 +15,25 @@ Inv-loop input pool₀ body₀ set₀ from₀ pool body set from = (length pool 
 abbrev μ-loop : tie.MeasureT-loop
 μ-loop input pool₀ body₀ set₀ from₀ pool body set from = length input - from
 
-new-requires : tie.Need-new-requires Inv-loop μ-loop
-new-requires c κs = search needs
-
-loop-holds : tie.Need-loop-holds Inv-loop μ-loop
-loop-holds c = search needs
-
-next-of-requires : tie.Need-next-of-requires Inv-loop μ-loop
-next-of-requires c κs = search needs
-
-sub-obey : tie.Need-sub-obey Inv-loop μ-loop
-sub-obey c = search needs
-
-part-obey-start : tie.Need-part-obey-start Inv-loop μ-loop
-part-obey-start c = search needs
-
 part-obey-end : tie.Need-part-obey-end Inv-loop μ-loop
-part-obey-end c = search needs
-
-obey-requires : tie.Need-obey-requires Inv-loop μ-loop
-obey-requires c κs = search needs
+part-obey-end c =
+    omega (
+      arith,
+      next-within 10 (c .before .before .before .before .before .before .before .args .input .now)
+          (c .before .before .loop .from) (omega arith),
+    )
 
 add-from : tie.Need-add-from Inv-loop μ-loop
-add-from c = search needs
-
-loop-less : tie.Need-loop-less Inv-loop μ-loop
-loop-less c = search needs
-
-loop-again : tie.Need-loop-again Inv-loop μ-loop
-loop-again c = search needs
-
-same-length : tie.Need-same-length Inv-loop μ-loop
-same-length c = search needs
-
-same-length-2 : tie.Need-same-length-2 Inv-loop μ-loop
-same-length-2 c = search needs
-
-returns : tie.Need-returns Inv-loop μ-loop
-returns c = search needs
+add-from c =
+    let b = c .before .before .before .before .before .before .before .before in
+    omega (
+      arith,
+      next-within 10 (b .before .before .before .before .before .before .before .args .input .now)
+          (b .before .before .loop .from) (omega arith),
+    )
 
 pub run-spec : {M : Type 1} → statement M
 run-spec =
     tie.close
-    (tie.spec
-    Inv-loop
-    μ-loop
-    new-requires
-    loop-holds
-    next-of-requires
-    sub-obey
-    part-obey-start
-    part-obey-end
-    obey-requires
-    add-from
-    loop-less
-    loop-again
-    same-length
-    same-length-2
-    returns)
+    (tie.spec Inv-loop μ-loop (search needs) (search needs) (search needs) (search needs) (search needs) part-obey-end
+    (search needs) add-from (search needs) (λ c. search needs) (search needs) (search needs) (search needs))

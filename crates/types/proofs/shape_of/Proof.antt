@@ -6,57 +6,6 @@ use borrow.Author.Needs.{needs}
 use Rattle.types.proofs.shape_of.Statement.{statement}
 use Rattle.types.proofs.shape_of.Tie as tie
 
-two-of-requires : tie.Need-two-of-requires
-two-of-requires c κs = search needs
-
-many-requires : tie.Need-many-requires
-many-requires c κs = search needs
-
-many-requires-2 : tie.Need-many-requires-2
-many-requires-2 c κs = search needs
-
-two-requires : tie.Need-two-requires
-two-requires c κs = search needs
-
-two-requires-2 : tie.Need-two-requires-2
-two-requires-2 c κs = search needs
-
-two-requires-3 : tie.Need-two-requires-3
-two-requires-3 c κs = search needs
-
-many-requires-3 : tie.Need-many-requires-3
-many-requires-3 c κs = search needs
-
-many-requires-4 : tie.Need-many-requires-4
-many-requires-4 c κs = search needs
-
-many-requires-5 : tie.Need-many-requires-5
-many-requires-5 c κs = search needs
-
-two-requires-4 : tie.Need-two-requires-4
-two-requires-4 c κs = search needs
-
-two-requires-5 : tie.Need-two-requires-5
-two-requires-5 c κs = search needs
-
-two-requires-6 : tie.Need-two-requires-6
-two-requires-6 c κs = search needs
-
-two-requires-7 : tie.Need-two-requires-7
-two-requires-7 c κs = search needs
-
-two-requires-8 : tie.Need-two-requires-8
-two-requires-8 c κs = search needs
-
-two-requires-9 : tie.Need-two-requires-9
-two-requires-9 c κs = search needs
-
-many-of-requires : tie.Need-many-of-requires
-many-of-requires c κs = search needs
-
-two-requires-10 : tie.Need-two-requires-10
-two-requires-10 c κs = search needs
-
 returns : tie.Need-returns
 unfolding shapeIn
 returns c = c .two-of .ensures ∙ rw (c .before .match .keys1)
@@ -151,39 +100,9 @@ returns-18 c =
 pub shape-of-spec : {M : Type 1} → statement M
 shape-of-spec =
     tie.close
-    (tie.spec
-    two-of-requires
-    many-requires
-    many-requires-2
-    two-requires
-    two-requires-2
-    two-requires-3
-    many-requires-3
-    many-requires-4
-    many-requires-5
-    two-requires-4
-    two-requires-5
-    two-requires-6
-    two-requires-7
-    two-requires-8
-    two-requires-9
-    many-of-requires
-    two-requires-10
-    returns
-    returns-2
-    returns-3
-    returns-4
-    returns-5
-    returns-6
-    returns-7
-    returns-8
-    returns-9
-    returns-10
-    returns-11
-    returns-12
-    returns-13
-    returns-14
-    returns-15
-    returns-16
-    returns-17
-    returns-18)
+    (tie.spec (λ c κs. search needs) (λ c κs. search needs) (λ c κs. search needs) (λ c κs. search needs)
+    (λ c κs. search needs) (λ c κs. search needs) (λ c κs. search needs) (λ c κs. search needs) (λ c κs. search needs)
+    (λ c κs. search needs) (λ c κs. search needs) (λ c κs. search needs) (λ c κs. search needs) (λ c κs. search needs)
+    (λ c κs. search needs) (λ c κs. search needs) (λ c κs. search needs) returns returns-2 returns-3 returns-4
+    returns-5 returns-6 returns-7 returns-8 returns-9 returns-10 returns-11 returns-12 returns-13 returns-14
+    returns-15 returns-16 returns-17 returns-18)

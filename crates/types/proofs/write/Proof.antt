@@ -2,7 +2,7 @@
 use native.Mathlib.Omega.{arith}
 use mathlib.Core.Path.{sym, _∙_}
 use denote.Ref.{now}
-use Rattle.fields.specs.Binary.{word}
+use Rattle.fields.specs.Words.{word}
 use Rattle.types.specs.Write.{shapeOf, measuredType, writeType}
 use Rattle.writing.proofs.RowLaws.{within-fits, written-answer, refused-answer}
 use Rattle.types.proofs.KindLaws.{sized-fits, tried-not, no-room}
@@ -56,6 +56,5 @@ returns-4 c =
 pub write-spec : {M : Type 1} → statement M
 write-spec =
     tie.close
-    (tie.spec
-    (search needs) (search needs) returns (search needs) (search needs) (search needs) put-row-requires (search needs) returns-2
-    (search needs) (search needs) returns-3 (search needs) returns-4)
+    (tie.spec (search needs) (search needs) returns (search needs) (search needs) (search needs) put-row-requires
+    (search needs) returns-2 (search needs) (search needs) returns-3 (search needs) returns-4)

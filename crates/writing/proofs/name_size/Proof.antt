@@ -35,8 +35,5 @@ returns-3 c = let a = c .before .before .args in sym (name-past (now (a .pool)) 
 pub name-size-spec : {M : Type 1} → statement M
 name-size-spec =
     tie.close
-    (tie.spec (search needs) (search needs) (search needs) (search needs) (search needs) (search needs)
-    add-result
-    returns
-    returns-2
-    returns-3)
+    (tie.spec (search needs) (search needs) (search needs) (search needs) (search needs) (search needs) add-result
+    returns returns-2 returns-3)

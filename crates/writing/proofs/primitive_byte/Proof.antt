@@ -1,7 +1,7 @@
 -- `primitive_byte` makes the byte of a primitive type by the tests of `primvaltype`; past 0x7f a difference stops at 0.
 use native.Mathlib.Omega.{arith}
 use borrow.Author.Tests.{eq-eqb, ne-eqb}
-use Rattle.fields.specs.Binary.{primvaltype}
+use Rattle.writing.specs.Binary.{primvaltype}
 use borrow.Author.Needs.{needs}
 use Rattle.writing.proofs.primitive_byte.Statement.{statement}
 use Rattle.writing.proofs.primitive_byte.Tie as tie

@@ -60,5 +60,6 @@ returns-4 c =
 pub put-name-spec : {M : Type 1} → statement M
 put-name-spec =
     tie.close
-    (tie.spec (search needs) (search needs) (search needs) returns (search needs) add-all returns-2 (search needs) returns-3
-    (search needs) (search needs) (search needs) (search needs) (search needs) (search needs) (search needs) returns-4)
+    (tie.spec (search needs) (search needs) (search needs) returns (search needs) add-all returns-2 (search needs)
+    returns-3 (search needs) (search needs) (search needs) (search needs) (search needs) (search needs) (search needs)
+    returns-4)

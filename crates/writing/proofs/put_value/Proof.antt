@@ -1,7 +1,7 @@
 -- `put_value` stores the byte of a primitive type or the index, by the test of `valtype`.
 use mathlib.Core.Path.{sym}
 use borrow.Author.Tests.{eq-eqb, ne-eqb}
-use Rattle.fields.specs.Binary.{valtype}
+use Rattle.writing.specs.Binary.{valtype}
 use borrow.Author.Needs.{needs}
 use Rattle.writing.proofs.put_value.Statement.{statement}
 use Rattle.writing.proofs.put_value.Tie as tie
@@ -18,5 +18,4 @@ returns-2 c = simp (ne-eqb _ _ (c .before .before .before .before .if1 .left)) (
 
 pub put-value-spec : {M : Type 1} → statement M
 put-value-spec =
-    tie.close
-    (tie.spec (search needs) (search needs) (search needs) returns (search needs) (search needs) returns-2)
+    tie.close (tie.spec (search needs) (search needs) (search needs) returns (search needs) (search needs) returns-2)

@@ -1,6 +1,6 @@
 -- `flag_byte` meets its contract: its test is that of `flag`.
 use borrow.Author.Tests.{eq-eqb, ne-eqb}
-use Rattle.fields.specs.Binary.{flag}
+use Rattle.writing.specs.Binary.{flag}
 use Rattle.canonicals.proofs.straight.flag_byte.Statement.{statement}
 use Rattle.canonicals.proofs.straight.flag_byte.Tie as tie
 

@@ -3,7 +3,7 @@ use native.Mathlib.Omega.{arith}
 use denote.Ref.{now}
 use lib.ListN.{getD}
 use Rattle.numbers.proofs.LebLaws.{size-bounds}
-use Rattle.canonicals.proofs.LiftedLaws.{lifted-seen}
+use Rattle.canonicals.proofs.LiftedLaws.{lifted-known}
 use borrow.Author.Needs.{needs}
 use Rattle.canonicals.proofs.straight.lift_size.Statement.{statement}
 use Rattle.canonicals.proofs.straight.lift_size.Tie as tie
@@ -47,7 +47,7 @@ options-size-requires c κs =
 returns-4 : tie.Need-returns-4
 returns-4 c =
     let a = c .before .before .before .before .before .before .before .before .before .before .before .before .before .before .args in
-    λ h. lifted-seen (now (a .row)) (now (a .pool)) (c .before .before .before .before .before .before .before .before .before .if3 .left) (c .before .before .before .before .before .before .before .before .before .before .if2 .left) (c .before .before .before .before .before .before .before .if4 .taken) (c .before .before .before .before .before .unsigned-size .ensures) (c .before .before .before .unsigned-size2 .ensures) (c .before .unsigned-size3 .ensures) (c .options-size .ensures h)
+    λ h. lifted-known (now (a .row)) (now (a .pool)) (c .before .before .before .before .before .before .before .before .before .if3 .left) (c .before .before .before .before .before .before .before .before .before .before .if2 .left) (c .before .before .before .before .before .before .before .if4 .taken) (c .before .before .before .before .before .unsigned-size .ensures) (c .before .before .before .unsigned-size2 .ensures) (c .before .unsigned-size3 .ensures) (c .options-size .ensures h)
 
 returns-5 : tie.Need-returns-5
 returns-5 c = λ h. absurd (omega arith)

@@ -1,8 +1,8 @@
--- `option_size` meets its contract: by `indexed-seen` and `bare-seen`.
+-- `option_size` meets its contract: by `indexed-known` and `bare-known`.
 use native.Mathlib.Omega.{arith}
 use mathlib.Core.Path.{sym, _∙_}
 use Rattle.numbers.proofs.LebLaws.{size-bounds}
-use Rattle.canonicals.proofs.ClassLaws.{indexed-seen, bare-seen}
+use Rattle.canonicals.proofs.ClassLaws.{indexed-known, bare-known}
 use borrow.Author.Needs.{needs}
 use Rattle.canonicals.proofs.straight.option_size.Statement.{statement}
 use Rattle.canonicals.proofs.straight.option_size.Tie as tie
@@ -12,14 +12,14 @@ add-result c = omega (arith, c .unsigned-size .ensures, size-bounds 128 (c .befo
 
 returns : tie.Need-returns
 returns c = (
-  λ h. indexed-seen (c .before .before .before .before .args .k) (c .before .before .before .before .args .x) (c .before .before .before .if1 .taken) (sym (c .before .before .is-indexed .ensures) ∙ c .before .if2 .taken) (c .unsigned-size .ensures),
+  λ h. indexed-known (c .before .before .before .before .args .k) (c .before .before .before .before .args .x) (c .before .before .before .if1 .taken) (sym (c .before .before .is-indexed .ensures) ∙ c .before .if2 .taken) (c .unsigned-size .ensures),
   omega (arith, c .unsigned-size .ensures, size-bounds 128 (c .before .before .before .before .args .x)),
 )
 
 returns-2 : tie.Need-returns-2
 returns-2 c =
     let a = c .before .before .before .before .args in
-    (λ h. bare-seen (a .k) (a .x) (c .before .before .before .if1 .taken) (sym (c .before .before .is-indexed .ensures) ∙ c .before .if2 .left) (c .if3 .taken), omega arith)
+    (λ h. bare-known (a .k) (a .x) (c .before .before .before .if1 .taken) (sym (c .before .before .is-indexed .ensures) ∙ c .before .if2 .left) (c .if3 .taken), omega arith)
 
 returns-3 : tie.Need-returns-3
 returns-3 c = (λ h. absurd (omega arith), omega arith)

@@ -3,7 +3,7 @@ use native.Mathlib.Omega.{arith}
 use denote.Ref.{now}
 use lib.ListN.{getD}
 use Rattle.numbers.proofs.LebLaws.{size-bounds}
-use Rattle.canonicals.proofs.ClassLaws.{optioned-seen}
+use Rattle.canonicals.proofs.ClassLaws.{optioned-known}
 use borrow.Author.Needs.{needs}
 use Rattle.canonicals.proofs.straight.optioned_size.Statement.{statement}
 use Rattle.canonicals.proofs.straight.optioned_size.Tie as tie
@@ -39,7 +39,7 @@ options-size-requires c κs =
 returns-3 : tie.Need-returns-3
 returns-3 c =
     let a = c .before .before .before .before .before .before .before .before .before .before .args in
-    λ h. optioned-seen (now (a .row)) (a .head) (c .before .before .before .before .before .before .before .if2 .left) (c .before .before .before .before .before .if3 .taken) (c .before .before .before .unsigned-size .ensures) (c .before .unsigned-size2 .ensures) (c .options-size .ensures h)
+    λ h. optioned-known (now (a .row)) (a .head) (c .before .before .before .before .before .before .before .if2 .left) (c .before .before .before .before .before .if3 .taken) (c .before .before .before .unsigned-size .ensures) (c .before .unsigned-size2 .ensures) (c .options-size .ensures h)
 
 returns-4 : tie.Need-returns-4
 returns-4 c = λ h. absurd (omega arith)

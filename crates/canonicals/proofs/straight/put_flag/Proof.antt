@@ -2,7 +2,7 @@
 use native.Mathlib.Omega.{arith}
 use denote.Ref.{now}
 use lib.ListN.{length-set}
-use Rattle.fields.specs.Binary.{word}
+use Rattle.fields.specs.Words.{word}
 use Rattle.canonicals.proofs.ClassLaws.{flag-wrote}
 use borrow.Author.Needs.{needs}
 use Rattle.canonicals.proofs.straight.put_flag.Statement.{statement}

@@ -3,10 +3,10 @@ use mathlib.Core.Path.{ap, _∙_}
 use lib.Seq.{length-sets}
 use lib.ListN.{length}
 use Rattle.canonicals.specs.declared.Class.the-variants as class
-use Rattle.canonicals.specs.Class.{bytesFor}
+use Rattle.canonicals.specs.inside.Class.{bytesFor}
 use native.Mathlib.Omega.{arith}
 use denote.Ref.{now}
-use Rattle.fields.specs.Binary.{word}
+use Rattle.fields.specs.Words.{word}
 use Rattle.canonicals.proofs.ClassLaws.{indices-wrote}
 use borrow.Author.Needs.{needs}
 use Rattle.canonicals.proofs.straight.put_indices.Statement.{statement}

@@ -2,7 +2,7 @@
 use mathlib.Core.Path.{ap, _∙_}
 use lib.Seq.{length-sets}
 use Rattle.canonicals.specs.declared.Class.the-variants as class
-use Rattle.canonicals.specs.Class.{bytesFor}
+use Rattle.canonicals.specs.inside.Class.{bytesFor}
 use native.Mathlib.Omega.{arith}
 use denote.Ref.{now}
 use lib.ListN.{length, length-set}

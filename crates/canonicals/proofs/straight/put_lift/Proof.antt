@@ -5,7 +5,7 @@ use Rattle.canonicals.specs.Table.{lift}
 use native.Mathlib.Omega.{arith}
 use denote.Ref.{now}
 use lib.ListN.{length, drop, length-set}
-use Rattle.fields.proofs.WroteLaws.{same-size}
+use Rattle.writing.proofs.WroteLaws.{same-size}
 use Rattle.canonicals.proofs.LiftedLaws.{function-wrote, lift-wrote}
 use borrow.Author.Needs.{needs}
 use Rattle.canonicals.proofs.straight.put_lift.Statement.{statement}

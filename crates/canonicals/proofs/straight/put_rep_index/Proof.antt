@@ -2,11 +2,12 @@
 use mathlib.Core.Path.{ap, _∙_}
 use lib.Seq.{length-sets}
 use Rattle.canonicals.specs.declared.Class.the-variants as class
-use Rattle.canonicals.specs.Class.{bytesFor}
+use Rattle.canonicals.specs.inside.Class.{bytesFor}
 use native.Mathlib.Omega.{arith}
 use denote.Ref.{now}
 use lib.ListN.{length, length-set}
-use Rattle.fields.specs.Binary.{word, representation}
+use Rattle.fields.specs.Words.{word}
+use Rattle.writing.specs.Binary.{representation}
 use Rattle.canonicals.proofs.ClassLaws.{pair-wrote}
 use borrow.Author.Needs.{needs}
 use Rattle.canonicals.proofs.straight.put_rep_index.Statement.{statement}

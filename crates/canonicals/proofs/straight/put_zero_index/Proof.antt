@@ -2,11 +2,11 @@
 use mathlib.Core.Path.{refl, ap, _∙_}
 use lib.Seq.{length-sets}
 use Rattle.canonicals.specs.declared.Class.the-variants as class
-use Rattle.canonicals.specs.Class.{bytesFor}
+use Rattle.canonicals.specs.inside.Class.{bytesFor}
 use native.Mathlib.Omega.{arith}
 use denote.Ref.{now}
 use lib.ListN.{length, length-set}
-use Rattle.fields.specs.Binary.{word}
+use Rattle.fields.specs.Words.{word}
 use Rattle.canonicals.proofs.ClassLaws.{pair-wrote}
 use borrow.Author.Needs.{needs}
 use Rattle.canonicals.proofs.straight.put_zero_index.Statement.{statement}

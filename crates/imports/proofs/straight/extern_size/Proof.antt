@@ -28,7 +28,7 @@ returns-2 c =
     let pool = now (a .pool) in
     let row = now (a .row) in (
       λ h. plain-extern pool row (c .before .before .before .name-size .ensures) (c .before .before .if1 .left) (eqb-true _ _ (sym
-          (c .before .is-plain .ensures) ∙ c .if2 .taken)) (a .made),
+          (c .before .is-bare .ensures) ∙ c .if2 .taken)) (a .made),
       omega (arith, c .before .before .before .name-size .ensures, name-small pool (getD row 1 0) (getD row 2 0) (s .pre .1), s .pre .2),
     )
 
@@ -57,7 +57,7 @@ returns-3 c =
     let row = now (a .row) in
     let small = name-small pool (getD row 1 0) (getD row 2 0) (s .pre .1) in (
       λ h. optioned-extern pool row (c .before .before .before .before .name-size .ensures) (c .before .before .before .if1 .left) (eqb-false _ _
-          (sym (c .before .before .is-plain .ensures) ∙ c .before .if2 .left)) (a .made)
+          (sym (c .before .before .is-bare .ensures) ∙ c .before .if2 .left)) (a .made)
           (c .options-size .ensures .0 h),
       omega (arith, c .before .before .before .before .name-size .ensures, small, s .pre .2, c .options-size .ensures .1),
     )

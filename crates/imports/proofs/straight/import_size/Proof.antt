@@ -1,7 +1,7 @@
--- `import_size` meets its contract: both fields are seen (`import-seen`).
+-- `import_size` meets its contract: both fields are seen (`import-known`).
 use native.Mathlib.Omega.{arith}
 use denote.Ref.{now}
-use Rattle.imports.proofs.ImportLaws.{import-seen}
+use Rattle.imports.proofs.ImportLaws.{import-known}
 use borrow.Author.Needs.{needs}
 use Rattle.imports.proofs.straight.import_size.Statement.{statement}
 use Rattle.imports.proofs.straight.import_size.Tie as tie
@@ -11,7 +11,7 @@ returns c =
     let a = c .before .before .before .before .before .before .before .before .before .before .args in
     let pool = now (a .pool) in
     let row = now (a .row) in
-    λ h. import-seen row pool (c .before .before .before .before .before .before .before .if1 .taken)
+    λ h. import-known row pool (c .before .before .before .before .before .before .before .if1 .taken)
     (c .before .before .before .before .before .before .if2 .taken) (c .before .before .reference-size .ensures .0 (c .before .if3 .taken) pool)
     (c .extern-size .ensures .0 h) (c .extern-size .ensures .1)
 

@@ -1,7 +1,7 @@
--- `options_size` meets its contract: each option is seen where the next is (`options-seen`).
+-- `options_size` meets its contract: each option is seen where the next is (`options-known`).
 use native.Mathlib.Omega.{arith}
 use denote.Ref.{now}
-use Rattle.imports.proofs.ExternLaws.{options-seen}
+use Rattle.imports.proofs.ExternLaws.{options-known}
 use borrow.Author.Needs.{needs}
 use Rattle.imports.proofs.straight.options_size.Statement.{statement}
 use Rattle.imports.proofs.straight.options_size.Tie as tie
@@ -14,7 +14,7 @@ returns c =
       λ h. let third = c .option-size3 .ensures .0 h in
           let second = c .before .before .before .before .option-size2 .ensures .0 (omega (arith, third .before)) in
           let first = c .before .before .before .before .before .before .before .before .option-size .ensures .0 (omega (arith, second .before)) in
-          options-seen pool row first second third,
+          options-known pool row first second third,
       omega (
         arith,
         c .before .before .before .before .before .before .before .before .option-size .ensures .1,

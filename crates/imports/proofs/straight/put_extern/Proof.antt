@@ -3,7 +3,7 @@ use native.Mathlib.Omega.{arith}
 use mathlib.Core.Path.{ap}
 use denote.Ref.{now}
 use lib.ListN.{length, getD, length-set}
-use Rattle.fields.proofs.WroteLaws.{then, then-byte, same-size}
+use Rattle.writing.proofs.WroteLaws.{then, then-byte, same-size}
 use Rattle.writing.proofs.GroupLaws.{byte-wrote}
 use Rattle.imports.proofs.ExternLaws.{options-sum, plain-is, optioned-is, optioned-length, plain-wrote, lead-wrote}
 use borrow.Author.Needs.{needs}

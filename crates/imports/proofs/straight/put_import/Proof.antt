@@ -1,7 +1,7 @@
 -- `put_import` stores the extern name and then the reference, as the row has them (`import-held`).
 use native.Mathlib.Omega.{arith}
 use denote.Ref.{now}
-use Rattle.fields.proofs.WroteLaws.{same-size}
+use Rattle.writing.proofs.WroteLaws.{same-size}
 use Rattle.imports.proofs.ImportLaws.{import-held, import-put}
 use borrow.Author.Needs.{needs}
 use Rattle.imports.proofs.straight.put_import.Statement.{statement}

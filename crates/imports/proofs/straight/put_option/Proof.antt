@@ -3,7 +3,7 @@ use native.Mathlib.Omega.{arith}
 use mathlib.Core.Path.{ap}
 use denote.Ref.{now}
 use lib.ListN.{length}
-use Rattle.fields.proofs.WroteLaws.{nothing, same-size}
+use Rattle.writing.proofs.WroteLaws.{nothing, same-size}
 use Rattle.imports.proofs.ExternLaws.{slot-none, slot-some, slot-wrote}
 use borrow.Author.Needs.{needs}
 use Rattle.imports.proofs.straight.put_option.Statement.{statement}

@@ -2,8 +2,8 @@
 use native.Mathlib.Omega.{arith}
 use denote.Ref.{now}
 use lib.ListN.{drop}
-use Rattle.fields.proofs.FlawLaws.{extern-right}
-use Rattle.fields.proofs.WroteLaws.{same-size}
+use Rattle.writing.proofs.FlawLaws.{extern-right}
+use Rattle.writing.proofs.WroteLaws.{same-size}
 use Rattle.imports.proofs.ExternLaws.{inside-at, slots-length, slots-wrote}
 use borrow.Author.Needs.{needs}
 use Rattle.imports.proofs.straight.put_options.Statement.{statement}

@@ -5,10 +5,9 @@ use denote.Ref.{now}
 use lib.ListN.{length, length-set}
 use lib.Seq.{sets}
 use Rattle.numbers.specs.Leb.{unsigned}
-use Rattle.fields.specs.Binary.{valtype, externdesc}
+use Rattle.writing.specs.Binary.{valtype, externdesc}
 use Rattle.writing.proofs.GroupLaws.{bytes-wrote}
-use Rattle.imports.proofs.ExternLaws.{reference-some, module-bytes, value-bytes, bound-bytes}
-use Rattle.imports.proofs.ExternLaws.{resource-bytes, index-bytes, byte-then, bytes-then, sets-size}
+use Rattle.imports.proofs.ExternLaws.{reference-some, module-bytes, value-bytes, bound-bytes, resource-bytes, index-bytes, byte-then, bytes-then, sets-size}
 use borrow.Author.Needs.{needs}
 use Rattle.imports.proofs.straight.put_reference.Statement.{statement}
 use Rattle.imports.proofs.straight.put_reference.Tie as tie

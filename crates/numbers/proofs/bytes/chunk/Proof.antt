@@ -6,21 +6,6 @@ use Rattle.numbers.proofs.CopyLaws.{through-array}
 use Rattle.numbers.proofs.bytes.chunk.Statement.{statement}
 use Rattle.numbers.proofs.bytes.chunk.Tie as tie
 
-slice-aggregate-copy-run : tie.Need-slice-aggregate-copy-run
-slice-aggregate-copy-run c = search needs
-
-copy-run-requires : tie.Need-copy-run-requires
-copy-run-requires c κs = search needs
-
-slice-aggregate-copy-run-2 : tie.Need-slice-aggregate-copy-run-2
-slice-aggregate-copy-run-2 c = search needs
-
-copy-run-requires-2 : tie.Need-copy-run-requires-2
-copy-run-requires-2 c κs = search needs
-
-same-length : tie.Need-same-length
-same-length c = search needs
-
 returns : tie.Need-returns
 returns c =
     let taken = c .before .before .before .before .before .before in
@@ -32,10 +17,4 @@ returns c =
 pub chunk-spec : {M : Type 1} → statement M
 chunk-spec =
     tie.close
-    (tie.spec
-    slice-aggregate-copy-run
-    copy-run-requires
-    slice-aggregate-copy-run-2
-    copy-run-requires-2
-    same-length
-    returns)
+    (tie.spec (search needs) (λ c κs. search needs) (search needs) (λ c κs. search needs) (search needs) returns)

@@ -15,19 +15,10 @@ returns c =
     let a = c .before .before .before .args in
     sym (store-room (now (a .src)) (a .at) (now (a .out)) (search needs))
 
-sub-if2 : tie.Need-sub-if2
-sub-if2 c = search needs
-
 returns-2 : tie.Need-returns-2
 returns-2 c =
     let a = c .before .before .before .before .args in
     sym (store-room (now (a .src)) (a .at) (now (a .out)) (search needs))
-
-copy-in-requires : tie.Need-copy-in-requires
-copy-in-requires c κs = search needs
-
-same-length : tie.Need-same-length
-same-length c = search needs
 
 returns-3 : tie.Need-returns-3
 returns-3 c =
@@ -36,4 +27,4 @@ returns-3 c =
     ∙ sym (store-fits (now (a .src)) (a .at) (now (a .out)) (search needs))
 
 pub copy-spec : {M : Type 1} → statement M
-copy-spec = tie.close (tie.spec returns sub-if2 returns-2 copy-in-requires same-length returns-3)
+copy-spec = tie.close (tie.spec returns (search needs) returns-2 (λ c κs. search needs) (search needs) returns-3)

@@ -57,18 +57,5 @@ returns c =
 pub copy-long-spec : {M : Type 1} → statement M
 copy-long-spec =
     tie.close
-    (tie.spec
-    Inv-loop
-    μ-loop
-    loop-holds
-    sub-loop
-    add-chunk
-    chunk-requires
-    add-k
-    loop-less
-    loop-again
-    sub-last
-    add-chunk-2
-    chunk-requires-2
-    same-length
-    returns)
+    (tie.spec Inv-loop μ-loop loop-holds sub-loop add-chunk chunk-requires add-k loop-less loop-again sub-last
+    add-chunk-2 chunk-requires-2 same-length returns)

@@ -51,16 +51,5 @@ returns c =
 pub copy-run-spec : {M : Type 1} → statement M
 copy-run-spec =
     tie.close
-    (tie.spec
-    Inv-loop
-    μ-loop
-    loop-holds
-    add-out
-    shared-slice-read-out
-    add-out-2
-    slice-write-out
-    add-k
-    loop-less
-    loop-again
-    same-length
-    returns)
+    (tie.spec Inv-loop μ-loop loop-holds add-out shared-slice-read-out add-out-2 slice-write-out add-k loop-less
+    loop-again same-length returns)

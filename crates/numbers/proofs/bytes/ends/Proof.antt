@@ -5,21 +5,6 @@ use Rattle.numbers.proofs.CopyLaws.{first-and-last}
 use Rattle.numbers.proofs.bytes.ends.Statement.{statement}
 use Rattle.numbers.proofs.bytes.ends.Tie as tie
 
-sub-last : tie.Need-sub-last
-sub-last c = search needs
-
-chunk-requires : tie.Need-chunk-requires
-chunk-requires c κs = search needs
-
-add-chunk : tie.Need-add-chunk
-add-chunk c = search needs
-
-chunk-requires-2 : tie.Need-chunk-requires-2
-chunk-requires-2 c κs = search needs
-
-same-length : tie.Need-same-length
-same-length c = search needs
-
 returns : tie.Need-returns
 returns c =
     let first = c .before .before .before .before .before .before in
@@ -30,4 +15,5 @@ returns c =
 
 pub ends-spec : {M : Type 1} → statement M
 ends-spec =
-    tie.close (tie.spec sub-last chunk-requires add-chunk chunk-requires-2 same-length returns)
+    tie.close
+    (tie.spec (search needs) (λ c κs. search needs) (search needs) (λ c κs. search needs) (search needs) returns)

@@ -10,27 +10,6 @@ use Rattle.numbers.proofs.BytesLaws.{part-inside, part-past}
 use Rattle.numbers.proofs.bytes.part.Statement.{statement}
 use Rattle.numbers.proofs.bytes.part.Tie as tie
 
-sub-if2 : tie.Need-sub-if2
-sub-if2 c = search needs
-
-add-result : tie.Need-add-result
-add-result c = search needs
-
-sub-result : tie.Need-sub-result
-sub-result c = search needs
-
-part-result-start : tie.Need-part-result-start
-part-result-start c = search needs
-
-part-result-end : tie.Need-part-result-end
-part-result-end c = search needs
-
-slice-aggregate-result : tie.Need-slice-aggregate-result
-slice-aggregate-result c = search needs
-
-slice-aggregate-result-2 : tie.Need-slice-aggregate-result-2
-slice-aggregate-result-2 c = search needs
-
 returns : tie.Need-returns
 returns c =
     let a = c .before .before .before .args in
@@ -50,14 +29,5 @@ returns-3 c =
 pub part-spec : {M : Type 1} → statement M
 part-spec =
     tie.close
-    (tie.spec
-    sub-if2
-    add-result
-    sub-result
-    part-result-start
-    part-result-end
-    slice-aggregate-result
-    slice-aggregate-result-2
-    returns
-    returns-2
-    returns-3)
+    (tie.spec (search needs) (search needs) (search needs) (search needs) (search needs) (search needs) (search needs)
+    returns returns-2 returns-3)

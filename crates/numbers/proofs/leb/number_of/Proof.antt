@@ -5,21 +5,6 @@ use borrow.Author.Needs.{needs}
 use Rattle.numbers.proofs.leb.number_of.Statement.{statement}
 use Rattle.numbers.proofs.leb.number_of.Tie as tie
 
-enum-known-t : tie.Need-enum-known-t
-enum-known-t c = search needs
-
-enum-told : tie.Need-enum-told
-enum-told c = search needs
-
-no-number-requires : tie.Need-no-number-requires
-no-number-requires c κs = search needs
-
-enum-told-2 : tie.Need-enum-told-2
-enum-told-2 c = search needs
-
-no-number-requires-2 : tie.Need-no-number-requires-2
-no-number-requires-2 c κs = search needs
-
 returns : tie.Need-returns
 returns c = sym (seen-value _ _ _ (c .before .t .given .1))
 
@@ -32,12 +17,5 @@ returns-3 c = c .no-number2 .ensures ∙ sym (seen-bad _ (c .before .enum-told2 
 pub number-of-spec : {M : Type 1} → statement M
 number-of-spec =
     tie.close
-    (tie.spec
-    enum-known-t
-    enum-told
-    no-number-requires
-    enum-told-2
-    no-number-requires-2
-    returns
-    returns-2
-    returns-3)
+    (tie.spec (search needs) (search needs) (λ c κs. search needs) (search needs) (λ c κs. search needs) returns
+    returns-2 returns-3)

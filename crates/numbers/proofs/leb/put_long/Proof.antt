@@ -10,23 +10,11 @@ use Rattle.numbers.proofs.leb.put_long.Lts as lts
 use Rattle.numbers.proofs.leb.size.Reads as size-reads
 use Rattle.numbers.proofs.leb.write.Reads as write-reads
 
-size-requires : tie.Need-size-requires
-size-requires c κs = search needs
-
 returns : tie.Need-returns
 returns c = rw (c .before .size .ensures) (sym (store-room _ _ _ (omega arith)))
 
-sub-if2 : tie.Need-sub-if2
-sub-if2 c = search needs
-
 returns-2 : tie.Need-returns-2
 returns-2 c = rw (c .before .before .size .ensures) (sym (store-room _ _ _ (omega arith)))
-
-write-requires : tie.Need-write-requires
-write-requires c κs = search needs
-
-same-length : tie.Need-same-length
-same-length c = search needs
 
 returns-3 : tie.Need-returns-3
 returns-3 c =
@@ -36,4 +24,4 @@ returns-3 c =
 pub put-long-spec : {M : Type 1} → statement M
 put-long-spec =
     tie.close
-    (tie.spec size-requires returns sub-if2 returns-2 write-requires same-length returns-3)
+    (tie.spec (λ c κs. search needs) returns (search needs) returns-2 (λ c κs. search needs) (search needs) returns-3)

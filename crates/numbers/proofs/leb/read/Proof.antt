@@ -100,26 +100,5 @@ returns-6 c = five (c .before .loop .inv) (c .loop-test .left)
 pub read-spec : {M : Type 1} → statement M
 read-spec =
     tie.close
-    (tie.spec
-    Inv-loop
-    μ-loop
-    loop-holds
-    returns
-    shared-slice-read-b
-    cast-b
-    returns-2
-    mul-value
-    add-value
-    returns-3
-    returns-4
-    cast-t15
-    add-t16
-    returns-5
-    mul-low
-    add-low
-    mul-least
-    mul-scale
-    add-i
-    loop-less
-    loop-again
-    returns-6)
+    (tie.spec Inv-loop μ-loop loop-holds returns shared-slice-read-b cast-b returns-2 mul-value add-value returns-3
+    returns-4 cast-t15 add-t16 returns-5 mul-low add-low mul-least mul-scale add-i loop-less loop-again returns-6)

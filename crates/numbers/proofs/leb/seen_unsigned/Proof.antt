@@ -10,31 +10,10 @@ use borrow.Author.Needs.{needs}
 use Rattle.numbers.proofs.leb.seen_unsigned.Statement.{statement}
 use Rattle.numbers.proofs.leb.seen_unsigned.Tie as tie
 
-shared-slice-read-b : tie.Need-shared-slice-read-b
-shared-slice-read-b c = search needs
-
-cast-t8 : tie.Need-cast-t8
-cast-t8 c = search needs
-
 returns : tie.Need-returns
 returns c =
     let s = now (c .before .before .before .before .args .input) in
     sym (seen-value (takeUnsigned s) _ _ (take-low u32 s (c .before .before .if1 .taken) (c .if2 .taken)))
-
-sub-take-unsigned : tie.Need-sub-take-unsigned
-sub-take-unsigned c = search needs
-
-part-take-unsigned-start : tie.Need-part-take-unsigned-start
-part-take-unsigned-start c = search needs
-
-part-take-unsigned-end : tie.Need-part-take-unsigned-end
-part-take-unsigned-end c = search needs
-
-take-unsigned-requires : tie.Need-take-unsigned-requires
-take-unsigned-requires c κs = search needs
-
-number-of-requires : tie.Need-number-of-requires
-number-of-requires c κs = search needs
 
 returns-2 : tie.Need-returns-2
 returns-2 c =
@@ -44,13 +23,5 @@ returns-2 c =
 pub seen-unsigned-spec : {M : Type 1} → statement M
 seen-unsigned-spec =
     tie.close
-    (tie.spec
-    shared-slice-read-b
-    cast-t8
-    returns
-    sub-take-unsigned
-    part-take-unsigned-start
-    part-take-unsigned-end
-    take-unsigned-requires
-    number-of-requires
-    returns-2)
+    (tie.spec (search needs) (search needs) returns (search needs) (search needs) (search needs)
+    (λ c κs. search needs) (λ c κs. search needs) returns-2)

@@ -9,35 +9,14 @@ use Rattle.numbers.proofs.leb.size.Reads as reads
 use Rattle.numbers.proofs.leb.size.Lts as lts
 use Rattle.numbers.proofs.leb.past.Reads as past-reads
 
-mul-two : tie.Need-mul-two
-mul-two c = search needs
-
-mul-three : tie.Need-mul-three
-mul-three c = search needs
-
-mul-four : tie.Need-mul-four
-mul-four c = search needs
-
-past-requires : tie.Need-past-requires
-past-requires c κs = search needs
-
 add-result : tie.Need-add-result
 add-result c = omega (arith, c .past .ensures, over-small ((c .before .args .end)) (c .before .args .n))
-
-past-requires-2 : tie.Need-past-requires-2
-past-requires-2 c κs = search needs
 
 add-result-2 : tie.Need-add-result-2
 add-result-2 c = omega (arith, c .before .past .ensures, over-small ((c .before .before .args .end)) (c .before .before .args .n), c .past2 .ensures, over-small ((c .before .before .args .end) * 128) (c .before .before .args .n))
 
-past-requires-3 : tie.Need-past-requires-3
-past-requires-3 c κs = search needs
-
 add-result-3 : tie.Need-add-result-3
 add-result-3 c = omega (arith, c .before .before .past .ensures, over-small ((c .before .before .before .args .end)) (c .before .before .before .args .n), c .before .past2 .ensures, over-small ((c .before .before .before .args .end) * 128) (c .before .before .before .args .n), c .past3 .ensures, over-small ((c .before .before .before .args .end) * 128 * 128) (c .before .before .before .args .n))
-
-past-requires-4 : tie.Need-past-requires-4
-past-requires-4 c κs = search needs
 
 add-result-4 : tie.Need-add-result-4
 add-result-4 c = omega (arith, c .before .before .before .past .ensures, over-small ((c .before .before .before .before .args .end)) (c .before .before .before .before .args .n), c .before .before .past2 .ensures, over-small ((c .before .before .before .before .args .end) * 128) (c .before .before .before .before .args .n), c .before .past3 .ensures, over-small ((c .before .before .before .before .args .end) * 128 * 128) (c .before .before .before .before .args .n), c .past4 .ensures, over-small ((c .before .before .before .before .args .end) * 128 * 128 * 128) (c .before .before .before .before .args .n))
@@ -48,16 +27,5 @@ returns c = omega (arith, c .before .before .before .past .ensures, c .before .b
 pub size-spec : {M : Type 1} → statement M
 size-spec =
     tie.close
-    (tie.spec
-    mul-two
-    mul-three
-    mul-four
-    past-requires
-    add-result
-    past-requires-2
-    add-result-2
-    past-requires-3
-    add-result-3
-    past-requires-4
-    add-result-4
-    returns)
+    (tie.spec (search needs) (search needs) (search needs) (λ c κs. search needs) add-result (λ c κs. search needs)
+    add-result-2 (λ c κs. search needs) add-result-3 (λ c κs. search needs) add-result-4 returns)

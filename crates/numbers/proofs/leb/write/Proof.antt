@@ -82,17 +82,5 @@ returns c =
 pub write-spec : {M : Type 1} → statement M
 write-spec =
     tie.close
-    (tie.spec
-    Inv-loop
-    μ-loop
-    loop-holds
-    add-out
-    cast-out
-    slice-write-out
-    add-i
-    loop-less
-    loop-again
-    cast-out-2
-    slice-write-out-2
-    same-length
-    returns)
+    (tie.spec Inv-loop μ-loop loop-holds add-out cast-out slice-write-out add-i loop-less loop-again cast-out-2
+    slice-write-out-2 same-length returns)

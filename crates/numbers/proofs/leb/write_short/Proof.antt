@@ -46,5 +46,5 @@ pub write-short-spec : {M : Type 1} → statement M
 write-short-spec =
     tie.close
     (tie.spec (search needs) (search needs) add-second (search needs) add-third (search needs) (search needs)
-    (search needs) (search needs) slice-write-out (search needs) (search needs) slice-write-out-2
-    cast-out-3 slice-write-out-3 (search needs) returns)
+    (search needs) (search needs) slice-write-out (search needs) (search needs) slice-write-out-2 cast-out-3
+    slice-write-out-3 (search needs) returns)

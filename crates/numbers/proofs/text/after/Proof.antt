@@ -5,9 +5,6 @@ use Rattle.numbers.proofs.TextRows.{step-first, step-in, step-below, st
 use Rattle.numbers.proofs.text.after.Statement.{statement}
 use Rattle.numbers.proofs.text.after.Tie as tie
 
-first-requires : tie.Need-first-requires
-first-requires c κs = search needs
-
 returns : tie.Need-returns
 returns c = c .first .ensures ∙ sym (step-first _ _ _ _ (c .before .if1 .taken))
 
@@ -17,11 +14,8 @@ returns-2 c = sym (step-below _ _ _ _ (c .before .if1 .left) (c .if2 .taken))
 returns-3 : tie.Need-returns-3
 returns-3 c = sym (step-above _ _ _ _ (c .before .before .if1 .left) (c .if3 .taken))
 
-sub-t6 : tie.Need-sub-t6
-sub-t6 c = search needs
-
 returns-4 : tie.Need-returns-4
 returns-4 c = sym (step-in _ _ _ _ (c .before .before .if1 .left) (c .before .if2 .left) (c .if3 .left))
 
 pub after-spec : {M : Type 1} → statement M
-after-spec = tie.close (tie.spec first-requires returns returns-2 returns-3 sub-t6 returns-4)
+after-spec = tie.close (tie.spec (λ c κs. search needs) returns returns-2 returns-3 (search needs) returns-4)

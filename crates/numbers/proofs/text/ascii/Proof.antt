@@ -1,15 +1,15 @@
 -- `numbers::text::ascii` meets its contract. The loop's invariant: the bytes before `i` are below 128. `below-join` adds a chunk,
 -- and `below-all` the last chunk, which may overlap.
-use Prim.Native.Nat.{ℕ, _+_, _-_, _≤_}
+use Prim.Native.Nat.{_+_, _-_, _≤_}
 use native.Mathlib.Omega.{arith}
-use mathlib.Core.Path.{_≡_}
 use lib.ListN.{length}
 use borrow.Author.Needs.{needs}
 use borrow.Author.Tests.{ltb-true}
-use Rattle.numbers.specs.Text.{Below}
+use Rattle.numbers.specs.inside.Below.{Below}
 use Rattle.numbers.proofs.TextChunks.{below-join, below-top, below-all}
 use Rattle.numbers.proofs.text.ascii.Statement.{statement}
 use Rattle.numbers.proofs.text.ascii.Tie as tie
+use Rattle.numbers.proofs.Impossible.{impossible}
 
 abbrev Inv-loop : tie.InvT-loop
 Inv-loop s len i₀ i = (i ≤ len) × Below 0x80 s 0 i
@@ -23,11 +23,8 @@ loop-holds c = (omega arith, λ k p q. omega arith)
 sub-loop : tie.Need-sub-loop Inv-loop μ-loop
 sub-loop c = omega arith
 
-top-requires : tie.Need-top-requires Inv-loop μ-loop
-top-requires c κs = search needs
-
 returns : tie.Need-returns Inv-loop μ-loop
-returns c = λ e. let z : _≡_ {A = ℕ} 0 1 = cc in absurd (omega arith)
+returns c = λ e. impossible cc
 
 add-i : tie.Need-add-i Inv-loop μ-loop
 add-i c = omega arith
@@ -45,23 +42,14 @@ loop-again c =
           (below-top 0x80 (chunk .result) s (v .i) (v .i + 16) (chunk .ensures) (omega arith)),
     )
 
-top-requires-2 : tie.Need-top-requires-2 Inv-loop μ-loop
-top-requires-2 c κs = search needs
-
 returns-2 : tie.Need-returns-2 Inv-loop μ-loop
 returns-2 c = λ e.
     let s = c .before .before .before .before .before .args .s .now in
     let v = c .before .before .loop in
     below-all 0x80 (c .top2 .result) s (v .i) 16 (length s) (omega arith) (omega arith) (v .inv .1) (c .top2 .ensures) (ltb-true _ _ e)
 
-top-requires-3 : tie.Need-top-requires-3 Inv-loop μ-loop
-top-requires-3 c κs = search needs
-
 returns-3 : tie.Need-returns-3 Inv-loop μ-loop
-returns-3 c = λ e. let z : _≡_ {A = ℕ} 0 1 = cc in absurd (omega arith)
-
-top-requires-4 : tie.Need-top-requires-4 Inv-loop μ-loop
-top-requires-4 c κs = search needs
+returns-3 c = λ e. impossible cc
 
 returns-4 : tie.Need-returns-4 Inv-loop μ-loop
 returns-4 c = λ e.
@@ -70,14 +58,8 @@ returns-4 c = λ e.
     below-all 0x80 (c .top4 .result) s 8 8 (length s) (omega arith) (omega arith)
     (below-top 0x80 (chunk .result) s 0 8 (chunk .ensures) (omega arith)) (c .top4 .ensures) (ltb-true _ _ e)
 
-top-requires-5 : tie.Need-top-requires-5 Inv-loop μ-loop
-top-requires-5 c κs = search needs
-
 returns-5 : tie.Need-returns-5 Inv-loop μ-loop
-returns-5 c = λ e. let z : _≡_ {A = ℕ} 0 1 = cc in absurd (omega arith)
-
-top-requires-6 : tie.Need-top-requires-6 Inv-loop μ-loop
-top-requires-6 c κs = search needs
+returns-5 c = λ e. impossible cc
 
 returns-6 : tie.Need-returns-6 Inv-loop μ-loop
 returns-6 c = λ e.
@@ -85,9 +67,6 @@ returns-6 c = λ e.
     let chunk = c .before .before .top5 in
     below-all 0x80 (c .top6 .result) s 4 4 (length s) (omega arith) (omega arith)
     (below-top 0x80 (chunk .result) s 0 4 (chunk .ensures) (omega arith)) (c .top6 .ensures) (ltb-true _ _ e)
-
-top-requires-7 : tie.Need-top-requires-7 Inv-loop μ-loop
-top-requires-7 c κs = search needs
 
 returns-7 : tie.Need-returns-7 Inv-loop μ-loop
 returns-7 c = λ e.
@@ -97,25 +76,6 @@ returns-7 c = λ e.
 pub ascii-spec : {M : Type 1} → statement M
 ascii-spec =
     tie.close
-    (tie.spec
-    Inv-loop
-    μ-loop
-    loop-holds
-    sub-loop
-    top-requires
-    returns
-    add-i
-    loop-less
-    loop-again
-    top-requires-2
-    returns-2
-    top-requires-3
-    returns-3
-    top-requires-4
-    returns-4
-    top-requires-5
-    returns-5
-    top-requires-6
-    returns-6
-    top-requires-7
-    returns-7)
+    (tie.spec Inv-loop μ-loop loop-holds sub-loop (λ c κs. search needs) returns add-i loop-less loop-again
+    (λ c κs. search needs) returns-2 (λ c κs. search needs) returns-3 (λ c κs. search needs) returns-4
+    (λ c κs. search needs) returns-5 (λ c κs. search needs) returns-6 (λ c κs. search needs) returns-7)

@@ -42,15 +42,5 @@ returns-11 c = sym (missed 9 0xf5 0x100 (c .before .before .before .before .befo
 pub first-spec : {M : Type 1} → statement M
 first-spec =
     tie.close
-    (tie.spec
-    returns
-    returns-2
-    returns-3
-    returns-4
-    returns-5
-    returns-6
-    returns-7
-    returns-8
-    returns-9
-    returns-10
+    (tie.spec returns returns-2 returns-3 returns-4 returns-5 returns-6 returns-7 returns-8 returns-9 returns-10
     returns-11)

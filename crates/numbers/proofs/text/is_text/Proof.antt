@@ -5,17 +5,8 @@ use Rattle.numbers.proofs.TextLaws.{ascii-text}
 use Rattle.numbers.proofs.text.is_text.Statement.{statement}
 use Rattle.numbers.proofs.text.is_text.Tie as tie
 
-ascii-requires : tie.Need-ascii-requires
-ascii-requires c κs = search needs
-
 returns : tie.Need-returns
 returns c = sym (ascii-text _ (c .before .ascii .ensures (c .if1 .taken)))
 
-well-formed-requires : tie.Need-well-formed-requires
-well-formed-requires c κs = search needs
-
-returns-2 : tie.Need-returns-2
-returns-2 c = search needs
-
 pub is-text-spec : {M : Type 1} → statement M
-is-text-spec = tie.close (tie.spec ascii-requires returns well-formed-requires returns-2)
+is-text-spec = tie.close (tie.spec (λ c κs. search needs) returns (λ c κs. search needs) (λ c. search needs))

@@ -2,7 +2,7 @@
 use Prim.Native.Nat.{_+_, _-_, _≤_}
 use native.Mathlib.Omega.{arith}
 use mathlib.Core.Logic.{⊎-elim}
-use Rattle.numbers.specs.Text.{Below}
+use Rattle.numbers.specs.inside.Below.{Below}
 use Rattle.numbers.proofs.TextChunks.{below-next}
 use Rattle.numbers.proofs.text.top.Statement.{statement}
 use Rattle.numbers.proofs.text.top.Tie as tie
@@ -49,15 +49,5 @@ returns c = λ j p q. c .before .loop .inv .1 j p (omega arith)
 pub top-spec : {M : Type 1} → statement M
 top-spec =
     tie.close
-    (tie.spec
-    Inv-loop
-    μ-loop
-    loop-holds
-    add-if1
-    shared-slice-read-if1
-    add-high
-    shared-slice-read-high
-    add-k
-    loop-less
-    loop-again
-    returns)
+    (tie.spec Inv-loop μ-loop loop-holds add-if1 shared-slice-read-if1 add-high shared-slice-read-high add-k loop-less
+    loop-again returns)

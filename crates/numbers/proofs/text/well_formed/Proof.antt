@@ -23,15 +23,6 @@ loop-holds c = refl
 shared-slice-read-after : tie.Need-shared-slice-read-after Inv-loop μ-loop
 shared-slice-read-after c = omega arith
 
-after-requires : tie.Need-after-requires Inv-loop μ-loop
-after-requires c κs = search needs
-
-enum-known-n : tie.Need-enum-known-n Inv-loop μ-loop
-enum-known-n c = search needs
-
-enum-told : tie.Need-enum-told Inv-loop μ-loop
-enum-told c = search needs
-
 returns : tie.Need-returns Inv-loop μ-loop
 returns c =
     let called = c .before .before in
@@ -60,16 +51,5 @@ returns-2 c = sym (c .before .loop .inv ∙ turns-end _ _ _ (c .before .before .
 pub well-formed-spec : {M : Type 1} → statement M
 well-formed-spec =
     tie.close
-    (tie.spec
-    Inv-loop
-    μ-loop
-    loop-holds
-    shared-slice-read-after
-    after-requires
-    enum-known-n
-    enum-told
-    returns
-    add-i
-    loop-less
-    loop-again
-    returns-2)
+    (tie.spec Inv-loop μ-loop loop-holds shared-slice-read-after (λ c κs. search needs) (search needs) (search needs)
+    returns add-i loop-less loop-again returns-2)

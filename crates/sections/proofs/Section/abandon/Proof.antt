@@ -14,39 +14,18 @@ use Rattle.sections.proofs.Section.abandon.Tie as tie
 sound-here : (c : tie.Else1) → let a = c .before .before .before .args in sounds (a .self) (length (now (a .body))) ≡ true
 sound-here c = passed (c .before .sound .ensures) (c .if1 .left)
 
-sound-requires : tie.Need-sound-requires
-sound-requires c κs = search needs
-
-refuse-requires : tie.Need-refuse-requires
-refuse-requires c κs = search needs
-
 returns : tie.Need-returns
 unfolding abandoning
 returns c = simp (c .refuse .ensures, failed (c .before .before .sound .ensures) (c .before .if1 .taken))
 
-enum-known-phase : tie.Need-enum-known-phase
-enum-known-phase c = search needs
-
 back-to-requires : tie.Need-back-to-requires
 back-to-requires c κs = count-positive _ _ (sound-here (c .before .before .before)) (ap opened (c .before .phase .given .1))
-
-enum-known-phase-2 : tie.Need-enum-known-phase-2
-enum-known-phase-2 c = search needs
 
 back-to-requires-2 : tie.Need-back-to-requires-2
 back-to-requires-2 c κs = count-positive _ _ (sound-here (c .before .before .before)) (ap opened (c .before .phase2 .given .1))
 
-enum-known-phase-3 : tie.Need-enum-known-phase-3
-enum-known-phase-3 c = search needs
-
 back-to-requires-3 : tie.Need-back-to-requires-3
 back-to-requires-3 c κs = count-positive _ _ (sound-here (c .before .before .before)) (ap opened (c .before .phase3 .given .1))
-
-enum-told : tie.Need-enum-told
-enum-told c = search needs
-
-refuse-requires-2 : tie.Need-refuse-requires-2
-refuse-requires-2 c κs = search needs
 
 returns-2 : tie.Need-returns-2
 unfolding abandoning
@@ -73,19 +52,6 @@ returns-5 c = simp (c .refuse2 .ensures, sound-here (c .before .before .before),
 pub abandon-spec : {M : Type 1} → statement M
 abandon-spec =
     tie.close
-    (tie.spec
-    sound-requires
-    refuse-requires
-    returns
-    enum-known-phase
-    back-to-requires
-    enum-known-phase-2
-    back-to-requires-2
-    enum-known-phase-3
-    back-to-requires-3
-    enum-told
-    refuse-requires-2
-    returns-2
-    returns-3
-    returns-4
-    returns-5)
+    (tie.spec (λ c κs. search needs) (λ c κs. search needs) returns (search needs) back-to-requires (search needs)
+    back-to-requires-2 (search needs) back-to-requires-3 (search needs) (λ c κs. search needs) returns-2 returns-3
+    returns-4 returns-5)

@@ -16,15 +16,9 @@ use Rattle.sections.proofs.Section.finish.Tie as tie
 sound-here : (c : tie.Else1) → let a = c .before .before .before .before .args in sounds (a .self) (length (now (a .body))) ≡ true
 sound-here c = passed (c .before .sound .ensures) (c .if1 .left)
 
-sound-requires : tie.Need-sound-requires
-sound-requires c κs = search needs
-
 returns : tie.Need-returns
 unfolding finishing
 returns c = simp (failed (c .before .sound .ensures) (c .if1 .taken))
-
-is-open-requires : tie.Need-is-open-requires
-is-open-requires c κs = search needs
 
 returns-2 : tie.Need-returns-2
 unfolding finishing
@@ -35,9 +29,6 @@ slice-aggregate-frame c = sym (length-take-le _ _ (used-le _ _ (sound-here (c .b
 
 frame-requires : tie.Need-frame-requires
 frame-requires c κs = family-small _ _ (sound-here (c .before .before .before .before))
-
-same-length : tie.Need-same-length
-same-length c = search needs
 
 returns-3 : tie.Need-returns-3
 unfolding finishing
@@ -50,12 +41,5 @@ returns-3 c =
 pub finish-spec : {M : Type 1} → statement M
 finish-spec =
     tie.close
-    (tie.spec
-    sound-requires
-    returns
-    is-open-requires
-    returns-2
-    slice-aggregate-frame
-    frame-requires
-    same-length
-    returns-3)
+    (tie.spec (λ c κs. search needs) returns (λ c κs. search needs) returns-2 slice-aggregate-frame frame-requires
+    (search needs) returns-3)

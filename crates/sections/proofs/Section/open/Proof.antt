@@ -15,30 +15,15 @@ use Rattle.sections.proofs.Section.open.Tie as tie
 sound-here : (c : tie.Else1) → let a = c .before .before .before .args in sounds (a .self) (length (now (a .body))) ≡ true
 sound-here c = passed (c .before .sound .ensures) (c .if1 .left)
 
-sound-requires : tie.Need-sound-requires
-sound-requires c κs = search needs
-
-refuse-requires : tie.Need-refuse-requires
-refuse-requires c κs = search needs
-
 returns : tie.Need-returns
 unfolding opening
 returns c = simp (c .refuse .ensures, failed (c .before .before .sound .ensures) (c .before .if1 .taken))
-
-is-open-requires : tie.Need-is-open-requires
-is-open-requires c κs = search needs
-
-refuse-requires-2 : tie.Need-refuse-requires-2
-refuse-requires-2 c κs = search needs
 
 returns-2 : tie.Need-returns-2
 unfolding opening
 returns-2 c =
     let asked = c .before .before in
     simp (c .refuse2 .ensures, sound-here (asked .before), sym (asked .is-open .ensures) ∙ c .before .if2 .taken)
-
-refuse-requires-3 : tie.Need-refuse-requires-3
-refuse-requires-3 c κs = search needs
 
 returns-3 : tie.Need-returns-3
 unfolding opening
@@ -51,12 +36,6 @@ returns-3 c =
       sym (asked .is-open .ensures) ∙ closed .if2 .left,
       eq-eqb _ _ (c .before .if3 .taken),
     )
-
-add-after : tie.Need-add-after
-add-after c = search needs
-
-after-requires : tie.Need-after-requires
-after-requires c κs = search needs
 
 returns-4 : tie.Need-returns-4
 unfolding opening
@@ -71,9 +50,6 @@ returns-4 c =
       ne-eqb _ _ (count .if3 .left),
       eq-eqb _ _ (c .before .if4 .taken),
     )
-
-refuse-requires-4 : tie.Need-refuse-requires-4
-refuse-requires-4 c κs = search needs
 
 returns-5 : tie.Need-returns-5
 unfolding opening
@@ -92,17 +68,6 @@ returns-5 c =
 pub open-spec : {M : Type 1} → statement M
 open-spec =
     tie.close
-    (tie.spec
-    sound-requires
-    refuse-requires
-    returns
-    is-open-requires
-    refuse-requires-2
-    returns-2
-    refuse-requires-3
-    returns-3
-    add-after
-    after-requires
-    returns-4
-    refuse-requires-4
+    (tie.spec (λ c κs. search needs) (λ c κs. search needs) returns (λ c κs. search needs) (λ c κs. search needs)
+    returns-2 (λ c κs. search needs) returns-3 (search needs) (λ c κs. search needs) returns-4 (λ c κs. search needs)
     returns-5)

@@ -17,26 +17,14 @@ use Rattle.sections.proofs.Section.params.Tie as tie
 sound-here : (c : tie.Else1) → let a = c .before .before .before .before .before .args in sounds (a .self) (length (now (a .body))) ≡ true
 sound-here c = passed (c .before .sound .ensures) (c .if1 .left)
 
-sound-requires : tie.Need-sound-requires
-sound-requires c κs = search needs
-
-refuse-requires : tie.Need-refuse-requires
-refuse-requires c κs = search needs
-
 returns : tie.Need-returns
 unfolding paraming
 returns c = simp (c .refuse .ensures, failed (c .before .before .sound .ensures) (c .before .if1 .taken))
-
-refuse-requires-2 : tie.Need-refuse-requires-2
-refuse-requires-2 c κs = search needs
 
 returns-2 : tie.Need-returns-2
 unfolding paraming
 returns-2 c =
     simp (c .refuse2 .ensures, sound-here (c .before .before), lt-ltb _ _ (c .before .if2 .taken))
-
-refuse-requires-3 : tie.Need-refuse-requires-3
-refuse-requires-3 c κs = search needs
 
 returns-3 : tie.Need-returns-3
 unfolding paraming
@@ -44,44 +32,17 @@ returns-3 c =
     let words = c .before .before in
     simp (c .refuse3 .ensures, sound-here (words .before), le-ltb _ _ (words .if2 .left), lt-ltb _ _ (c .before .if3 .taken))
 
-enum-known-phase : tie.Need-enum-known-phase
-enum-known-phase c = search needs
-
-write-params-requires : tie.Need-write-params-requires
-write-params-requires c κs = search needs
-
 after-requires : tie.Need-after-requires
 after-requires c κs =
     let wrote = c .before .before in
     let start = wrote .before .before .before .before .before .before .before .before .before .before .before .before in
     written-fits (shape-writer (start .args .self) _ _ _ _ _) (wrote .write-params .ensures) (omega arith)
 
-enum-known-phase-2 : tie.Need-enum-known-phase-2
-enum-known-phase-2 c = search needs
-
-write-params-requires-2 : tie.Need-write-params-requires-2
-write-params-requires-2 c κs = search needs
-
 after-requires-2 : tie.Need-after-requires-2
 after-requires-2 c κs =
     let wrote = c .before .before in
     let start = wrote .before .before .before .before .before .before .before .before .before .before .before .before in
     written-fits (shape-writer (start .args .self) _ _ _ _ _) (wrote .write-params2 .ensures) (omega arith)
-
-enum-told : tie.Need-enum-told
-enum-told c = search needs
-
-refuse-requires-4 : tie.Need-refuse-requires-4
-refuse-requires-4 c κs = search needs
-
-enum-told-2 : tie.Need-enum-told-2
-enum-told-2 c = search needs
-
-refuse-requires-5 : tie.Need-refuse-requires-5
-refuse-requires-5 c κs = search needs
-
-same-length : tie.Need-same-length
-same-length c = search needs
 
 returns-4 : tie.Need-returns-4
 unfolding paraming
@@ -92,9 +53,6 @@ returns-4 c =
     let words = pool .before in
     simp (sound-here (words .before), le-ltb _ _ (words .if2 .left), le-ltb _ _ (pool .if3 .left), arm .phase .given .1)
     (as-wrote _ _ _ (wrote .write-params .ensures) (c .after .ensures))
-
-same-length-2 : tie.Need-same-length-2
-same-length-2 c = search needs
 
 returns-5 : tie.Need-returns-5
 unfolding paraming
@@ -135,27 +93,7 @@ returns-7 c =
 pub params-spec : {M : Type 1} → statement M
 params-spec =
     tie.close
-    (tie.spec
-    sound-requires
-    refuse-requires
-    returns
-    refuse-requires-2
-    returns-2
-    refuse-requires-3
-    returns-3
-    enum-known-phase
-    write-params-requires
-    after-requires
-    enum-known-phase-2
-    write-params-requires-2
-    after-requires-2
-    enum-told
-    refuse-requires-4
-    enum-told-2
-    refuse-requires-5
-    same-length
-    returns-4
-    same-length-2
-    returns-5
-    returns-6
-    returns-7)
+    (tie.spec (λ c κs. search needs) (λ c κs. search needs) returns (λ c κs. search needs) returns-2
+    (λ c κs. search needs) returns-3 (search needs) (λ c κs. search needs) after-requires (search needs)
+    (λ c κs. search needs) after-requires-2 (search needs) (λ c κs. search needs) (search needs)
+    (λ c κs. search needs) (search needs) returns-4 (search needs) returns-5 returns-6 returns-7)

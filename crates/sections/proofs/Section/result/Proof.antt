@@ -16,48 +16,15 @@ use Rattle.sections.proofs.Section.result.Tie as tie
 sound-here : (c : tie.Else1) → let a = c .before .before .before .args in sounds (a .self) (length (now (a .body))) ≡ true
 sound-here c = passed (c .before .sound .ensures) (c .if1 .left)
 
-sound-requires : tie.Need-sound-requires
-sound-requires c κs = search needs
-
-refuse-requires : tie.Need-refuse-requires
-refuse-requires c κs = search needs
-
 returns : tie.Need-returns
 unfolding resulting
 returns c = simp (c .refuse .ensures, failed (c .before .before .sound .ensures) (c .before .if1 .taken))
-
-enum-told : tie.Need-enum-told
-enum-told c = search needs
-
-write-result-requires : tie.Need-write-result-requires
-write-result-requires c κs = search needs
 
 after-requires : tie.Need-after-requires
 after-requires c κs =
     let wrote = c .before .before in
     let start = wrote .before .before .before .before .before .before .before in
     written-fits (shape-writer (start .args .self) _ _ _ _ _) (wrote .write-result .ensures) (omega arith)
-
-enum-told-2 : tie.Need-enum-told-2
-enum-told-2 c = search needs
-
-refuse-requires-2 : tie.Need-refuse-requires-2
-refuse-requires-2 c κs = search needs
-
-enum-told-3 : tie.Need-enum-told-3
-enum-told-3 c = search needs
-
-refuse-requires-3 : tie.Need-refuse-requires-3
-refuse-requires-3 c κs = search needs
-
-enum-told-4 : tie.Need-enum-told-4
-enum-told-4 c = search needs
-
-refuse-requires-4 : tie.Need-refuse-requires-4
-refuse-requires-4 c κs = search needs
-
-same-length : tie.Need-same-length
-same-length c = search needs
 
 returns-2 : tie.Need-returns-2
 unfolding resulting
@@ -82,21 +49,6 @@ returns-5 c = simp (c .refuse4 .ensures, sound-here (c .before .before .before),
 pub result-spec : {M : Type 1} → statement M
 result-spec =
     tie.close
-    (tie.spec
-    sound-requires
-    refuse-requires
-    returns
-    enum-told
-    write-result-requires
-    after-requires
-    enum-told-2
-    refuse-requires-2
-    enum-told-3
-    refuse-requires-3
-    enum-told-4
-    refuse-requires-4
-    same-length
-    returns-2
-    returns-3
-    returns-4
-    returns-5)
+    (tie.spec (λ c κs. search needs) (λ c κs. search needs) returns (search needs) (λ c κs. search needs)
+    after-requires (search needs) (λ c κs. search needs) (search needs) (λ c κs. search needs) (search needs)
+    (λ c κs. search needs) (search needs) returns-2 returns-3 returns-4 returns-5)

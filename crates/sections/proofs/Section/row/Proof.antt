@@ -17,38 +17,20 @@ use Rattle.sections.proofs.Section.row.Tie as tie
 sound-here : (c : tie.Else1) → let a = c .before .before .before .before .before .args in sounds (a .self) (length (now (a .body))) ≡ true
 sound-here c = passed (c .before .sound .ensures) (c .if1 .left)
 
-sound-requires : tie.Need-sound-requires
-sound-requires c κs = search needs
-
-refuse-requires : tie.Need-refuse-requires
-refuse-requires c κs = search needs
-
 returns : tie.Need-returns
 unfolding rowing
 returns c = simp (c .refuse .ensures, failed (c .before .before .sound .ensures) (c .before .if1 .taken))
-
-refuse-requires-2 : tie.Need-refuse-requires-2
-refuse-requires-2 c κs = search needs
 
 returns-2 : tie.Need-returns-2
 unfolding rowing
 returns-2 c =
     simp (c .refuse2 .ensures, sound-here (c .before .before), lt-ltb _ _ (c .before .if2 .taken))
 
-refuse-requires-3 : tie.Need-refuse-requires-3
-refuse-requires-3 c κs = search needs
-
 returns-3 : tie.Need-returns-3
 unfolding rowing
 returns-3 c =
     let row = c .before .before in
     simp (c .refuse3 .ensures, sound-here (row .before), le-ltb _ _ (row .if2 .left), lt-ltb _ _ (c .before .if3 .taken))
-
-is-open-requires : tie.Need-is-open-requires
-is-open-requires c κs = search needs
-
-refuse-requires-4 : tie.Need-refuse-requires-4
-refuse-requires-4 c κs = search needs
 
 returns-4 : tie.Need-returns-4
 unfolding rowing
@@ -63,9 +45,6 @@ returns-4 c =
       le-ltb _ _ (pool .if3 .left),
       sym (asked .is-open .ensures) ∙ c .before .if4 .taken,
     )
-
-refuse-requires-5 : tie.Need-refuse-requires-5
-refuse-requires-5 c κs = search needs
 
 returns-5 : tie.Need-returns-5
 unfolding rowing
@@ -82,20 +61,11 @@ returns-5 c =
       eq-eqb _ _ (c .before .if5 .taken),
     )
 
-write-by-requires : tie.Need-write-by-requires
-write-by-requires c κs = search needs
-
-add-after : tie.Need-add-after
-add-after c = search needs
-
 after-requires : tie.Need-after-requires
 after-requires c κs =
     let wrote = c .before .before in
     let start = wrote .before .before .before .before .before .before .before .before .before .before .before .before in
     written-fits (family-writer (start .args .self) _ _ _) (wrote .write-by .ensures) (omega arith)
-
-same-length : tie.Need-same-length
-same-length c = search needs
 
 returns-6 : tie.Need-returns-6
 unfolding rowing
@@ -117,21 +87,6 @@ returns-6 c =
 pub row-spec : {M : Type 1} → statement M
 row-spec =
     tie.close
-    (tie.spec
-    sound-requires
-    refuse-requires
-    returns
-    refuse-requires-2
-    returns-2
-    refuse-requires-3
-    returns-3
-    is-open-requires
-    refuse-requires-4
-    returns-4
-    refuse-requires-5
-    returns-5
-    write-by-requires
-    add-after
-    after-requires
-    same-length
-    returns-6)
+    (tie.spec (λ c κs. search needs) (λ c κs. search needs) returns (λ c κs. search needs) returns-2
+    (λ c κs. search needs) returns-3 (λ c κs. search needs) (λ c κs. search needs) returns-4 (λ c κs. search needs)
+    returns-5 (λ c κs. search needs) (search needs) after-requires (search needs) returns-6)

@@ -9,30 +9,6 @@ returns : tie.Need-returns
 unfolding sounds
 returns c = simp (lt-ltb _ _ (c .if1 .taken))
 
-enum-told : tie.Need-enum-told
-enum-told c = search needs
-
-is-known-requires : tie.Need-is-known-requires
-is-known-requires c κs = search needs
-
-enum-known-phase : tie.Need-enum-known-phase
-enum-known-phase c = search needs
-
-holds-requires : tie.Need-holds-requires
-holds-requires c κs = search needs
-
-enum-known-phase-2 : tie.Need-enum-known-phase-2
-enum-known-phase-2 c = search needs
-
-holds-requires-2 : tie.Need-holds-requires-2
-holds-requires-2 c κs = search needs
-
-enum-known-phase-3 : tie.Need-enum-known-phase-3
-enum-known-phase-3 c = search needs
-
-holds-requires-3 : tie.Need-holds-requires-3
-holds-requires-3 c κs = search needs
-
 returns-2 : tie.Need-returns-2
 unfolding sounds
 returns-2 c =
@@ -59,17 +35,5 @@ returns-5 c =
 pub sound-spec : {M : Type 1} → statement M
 sound-spec =
     tie.close
-    (tie.spec
-    returns
-    enum-told
-    is-known-requires
-    enum-known-phase
-    holds-requires
-    enum-known-phase-2
-    holds-requires-2
-    enum-known-phase-3
-    holds-requires-3
-    returns-2
-    returns-3
-    returns-4
-    returns-5)
+    (tie.spec returns (search needs) (λ c κs. search needs) (search needs) (λ c κs. search needs) (search needs)
+    (λ c κs. search needs) (search needs) (λ c κs. search needs) returns-2 returns-3 returns-4 returns-5)

@@ -80,5 +80,5 @@ cases-size-spec =
     (tie.spec Inv-loop μ-loop loop-holds (λ c. omega arith) (λ c. omega arith) (λ c. omega arith) (λ c. omega arith)
     (λ c. omega arith) (search needs) (λ c. omega arith) (λ c. omega arith) (λ c. omega arith) (λ c. omega arith)
     (λ c. omega arith) (λ c. omega arith) (search needs) (λ c. (λ h. absurd (omega arith), omega arith))
-    (λ c. (λ h. absurd (omega arith), omega arith)) add-made add-made-2 add-made-3 (λ c. omega arith) (λ c. omega arith)
-    (λ c. omega arith) loop-again returns-3)
+    (λ c. (λ h. absurd (omega arith), omega arith)) add-made add-made-2 add-made-3 (λ c. omega arith)
+    (λ c. omega arith) (λ c. omega arith) loop-again returns-3)

@@ -6,7 +6,7 @@ use mathlib.Core.List.{[], _∷_}
 use denote.Ref.{now}
 use borrow.Author.Needs.{needs}
 use Rattle.fields.specs.declared.Field.the-variants as field
-use Rattle.fields.specs.Binary.{word}
+use Rattle.fields.specs.Words.{word}
 use Rattle.writing.proofs.RowLaws.{value-small}
 use Rattle.writing.proofs.GroupLaws.{Going, going-start, going-end}
 use Rattle.types.specs.Table.{labelvaltype}

@@ -6,7 +6,7 @@ use mathlib.Core.List.{[], _∷_}
 use denote.Ref.{now}
 use borrow.Author.Needs.{needs}
 use Rattle.fields.specs.declared.Field.the-variants as field
-use Rattle.fields.specs.Judge.{wide}
+use Rattle.fields.specs.Words.{wide}
 use Rattle.fields.specs.Shape.{widths}
 use Rattle.writing.proofs.GroupLaws.{Putting, putting-start, putting-next, putting-end}
 use Rattle.types.specs.Table.{case}

@@ -3,9 +3,10 @@ use native.Mathlib.Omega.{arith}
 use denote.Ref.{now}
 use lib.ListN.{drop}
 use borrow.Author.Needs.{needs}
-use Rattle.fields.specs.Binary.{word, valtype}
+use Rattle.fields.specs.Words.{word}
+use Rattle.writing.specs.Binary.{valtype}
 use Rattle.fields.specs.Table.{elements}
-use Rattle.fields.proofs.WroteLaws.{same-size}
+use Rattle.writing.proofs.WroteLaws.{same-size}
 use Rattle.types.proofs.CountedLaws.{counted-front, counted-put}
 use Rattle.types.proofs.counted.put_tuple.Statement.{statement}
 use Rattle.types.proofs.counted.put_tuple.Tie as tie
@@ -65,5 +66,5 @@ returns c =
 pub put-tuple-spec : {M : Type 1} → statement M
 put-tuple-spec =
     tie.close
-    (tie.spec (search needs) (search needs) (search needs) (search needs) (search needs) (search needs) add-next-2 (search needs)
-    (search needs) put-values-requires same-length returns)
+    (tie.spec (search needs) (search needs) (search needs) (search needs) (search needs) (search needs) add-next-2
+    (search needs) (search needs) put-values-requires same-length returns)

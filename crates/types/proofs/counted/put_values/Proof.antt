@@ -7,8 +7,8 @@ use denote.Ref.{now}
 use borrow.Author.Needs.{needs}
 use lib.ListN.{drop}
 use Rattle.fields.specs.declared.Field.the-variants as field
-use Rattle.fields.specs.Binary.{word, valtype}
-use Rattle.fields.specs.Judge.{wide}
+use Rattle.fields.specs.Words.{word, wide}
+use Rattle.writing.specs.Binary.{valtype}
 use Rattle.fields.specs.Shape.{widths}
 use Rattle.writing.proofs.GroupLaws.{Putting, putting-start, putting-next, putting-end}
 use Rattle.types.proofs.CountedLaws.{indices-right, value-put}

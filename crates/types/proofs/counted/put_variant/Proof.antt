@@ -3,9 +3,9 @@ use native.Mathlib.Omega.{arith}
 use denote.Ref.{now}
 use lib.ListN.{drop}
 use borrow.Author.Needs.{needs}
-use Rattle.fields.specs.Binary.{word}
+use Rattle.fields.specs.Words.{word}
 use Rattle.fields.specs.Table.{elements}
-use Rattle.fields.proofs.WroteLaws.{same-size}
+use Rattle.writing.proofs.WroteLaws.{same-size}
 use Rattle.types.specs.Table.{case}
 use Rattle.types.proofs.CountedLaws.{counted-front, counted-put}
 use Rattle.types.proofs.counted.put_variant.Statement.{statement}
@@ -68,5 +68,5 @@ returns c =
 pub put-variant-spec : {M : Type 1} → statement M
 put-variant-spec =
     tie.close
-    (tie.spec (search needs) (search needs) (search needs) (search needs) (search needs) (search needs) add-next-2 (search needs)
-    (search needs) put-cases-requires same-length returns)
+    (tie.spec (search needs) (search needs) (search needs) (search needs) (search needs) (search needs) add-next-2
+    (search needs) (search needs) put-cases-requires same-length returns)

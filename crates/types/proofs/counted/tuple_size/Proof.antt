@@ -1,4 +1,4 @@
--- `tuple_size` meets its contract: a count and the elements that are seen make the row (`counted-seen`).
+-- `tuple_size` meets its contract: a count and the elements that are seen make the row (`counted-known`).
 use native.Mathlib.Omega.{arith}
 use Prim.Native.Nat.{ℕ, _+_}
 use mathlib.Core.Path.{refl, ap}
@@ -6,10 +6,9 @@ use denote.Ref.{now}
 use borrow.Author.Needs.{needs}
 use Rattle.numbers.proofs.LebLaws.{size-bounds}
 use Rattle.fields.specs.declared.Field.the-variants as field
-use Rattle.fields.specs.Binary.{word}
-use Rattle.fields.specs.Judge.{wide}
+use Rattle.fields.specs.Words.{word, wide}
 use Rattle.fields.specs.Shape.{widths}
-use Rattle.writing.proofs.RowLaws.{counted-seen}
+use Rattle.writing.proofs.RowLaws.{counted-known}
 use Rattle.writing.proofs.GroupLaws.{value-element}
 use Rattle.types.proofs.counted.tuple_size.Statement.{statement}
 use Rattle.types.proofs.counted.tuple_size.Tie as tie
@@ -50,11 +49,11 @@ returns-2 c =
     let args = at-args .args in
     let pre = at-args .pre in
     let row = now (args .row) in
-    λ h pool small. counted-seen 0x6f field.Value field.Nothing refl row pool (value-element pool) small pre (if2 .taken)
+    λ h pool small. counted-known 0x6f field.Value field.Nothing refl row pool (value-element pool) small pre (if2 .taken)
     (ap (λ (m : ℕ). 1 + m) (unsigned-size .ensures)) (values-size .ensures .0 h pool) (values-size .ensures .1)
 
 pub tuple-size-spec : {M : Type 1} → statement M
 tuple-size-spec =
     tie.close
-    (tie.spec (λ c. λ h. absurd (omega arith)) (search needs) cast-n mul-if2 add-if2 (search needs) (search needs) add-values-size
-    values-size-requires returns-2 (λ c. λ h. absurd (omega arith)))
+    (tie.spec (λ c. λ h. absurd (omega arith)) (search needs) cast-n mul-if2 add-if2 (search needs) (search needs)
+    add-values-size values-size-requires returns-2 (λ c. λ h. absurd (omega arith)))

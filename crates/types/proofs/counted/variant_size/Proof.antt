@@ -1,4 +1,4 @@
--- `variant_size` meets its contract: a count and the elements that are seen make the row (`counted-seen`).
+-- `variant_size` meets its contract: a count and the elements that are seen make the row (`counted-known`).
 use native.Mathlib.Omega.{arith}
 use Prim.Native.Nat.{ℕ, _+_}
 use mathlib.Core.Path.{refl, ap}
@@ -6,10 +6,9 @@ use denote.Ref.{now}
 use borrow.Author.Needs.{needs}
 use Rattle.numbers.proofs.LebLaws.{size-bounds}
 use Rattle.fields.specs.declared.Field.the-variants as field
-use Rattle.fields.specs.Binary.{word}
-use Rattle.fields.specs.Judge.{wide}
+use Rattle.fields.specs.Words.{word, wide}
 use Rattle.fields.specs.Shape.{widths}
-use Rattle.writing.proofs.RowLaws.{counted-seen}
+use Rattle.writing.proofs.RowLaws.{counted-known}
 use Rattle.writing.proofs.GroupLaws.{case-element}
 use Rattle.types.proofs.counted.variant_size.Statement.{statement}
 use Rattle.types.proofs.counted.variant_size.Tie as tie
@@ -50,12 +49,12 @@ returns-2 c =
     let args = at-args .args in
     let pre = at-args .pre in
     let row = now (args .row) in
-    λ h. counted-seen 0x71 field.Name field.OptionalThenZero refl row (now (args .pool)) (case-element (now (args .pool)))
+    λ h. counted-known 0x71 field.Name field.OptionalThenZero refl row (now (args .pool)) (case-element (now (args .pool)))
     (pre .0) (pre .1) (if2 .taken)
     (ap (λ (m : ℕ). 1 + m) (unsigned-size .ensures)) (cases-size .ensures .0 h) (cases-size .ensures .1)
 
 pub variant-size-spec : {M : Type 1} → statement M
 variant-size-spec =
     tie.close
-    (tie.spec (λ c. λ h. absurd (omega arith)) (search needs) cast-n mul-if2 add-if2 (search needs) (search needs) add-cases-size
-    cases-size-requires returns-2 (λ c. λ h. absurd (omega arith)))
+    (tie.spec (λ c. λ h. absurd (omega arith)) (search needs) cast-n mul-if2 add-if2 (search needs) (search needs)
+    add-cases-size cases-size-requires returns-2 (λ c. λ h. absurd (omega arith)))

@@ -1,6 +1,6 @@
 -- `async_byte` meets its contract: 40 where the word is 0, else 43.
 use borrow.Author.Tests.{eq-eqb, ne-eqb}
-use Rattle.fields.specs.Binary.{functype}
+use Rattle.writing.specs.Binary.{functype}
 use Rattle.types.proofs.function.async_byte.Statement.{statement}
 use Rattle.types.proofs.function.async_byte.Tie as tie
 
@@ -14,5 +14,4 @@ returns-2 c = simp (ne-eqb _ _ (c .if1 .left))
 
 pub async-byte-spec : {M : Type 1} → statement M
 async-byte-spec =
-    tie.close
-    (tie.spec returns returns-2)
+    tie.close (tie.spec returns returns-2)

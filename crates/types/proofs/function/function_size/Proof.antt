@@ -3,7 +3,7 @@ use native.Mathlib.Omega.{arith}
 use denote.Ref.{now}
 use lib.ListN.{getD}
 use Rattle.numbers.proofs.LebLaws.{size-bounds}
-use Rattle.types.proofs.FunctionLaws.{function-seen}
+use Rattle.types.proofs.FunctionLaws.{function-known}
 use borrow.Author.Needs.{needs}
 use Rattle.types.proofs.function.function_size.Statement.{statement}
 use Rattle.types.proofs.function.function_size.Tie as tie
@@ -49,7 +49,7 @@ returns-3 c =
     let a = mid .before .before .before .before .before .before .args in
     let result = c .before .before .before .before .optional-size .ensures .0 (c .before .before .before .if4 .taken) in
     let pre = mid .before .before .before .before .before .before .pre in
-    λ h. function-seen (now (a .row)) (now (a .pool)) (pre .0) (pre .1)
+    λ h. function-known (now (a .row)) (now (a .pool)) (pre .0) (pre .1)
     (omega (arith, c .before .before .before .before .before .before .before .if3 .taken)) (omega (arith, mid .before .if2 .left))
     result (omega (arith, c .before .unsigned-size .ensures))
     (c .fields-size .ensures .0 h) (c .fields-size .ensures .1)

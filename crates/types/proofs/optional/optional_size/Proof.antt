@@ -1,7 +1,7 @@
--- `optional_size` meets its contract: an O that is absent is `absent-seen`, one that is present `present-seen`.
+-- `optional_size` meets its contract: an O that is absent is `absent-known`, one that is present `present-known`.
 use native.Mathlib.Omega.{arith}
 use Rattle.writing.proofs.RowLaws.{value-small}
-use Rattle.types.proofs.SmallLaws.{absent-seen, present-seen}
+use Rattle.types.proofs.SmallLaws.{absent-known, present-known}
 use borrow.Author.Needs.{needs}
 use Rattle.types.proofs.optional.optional_size.Statement.{statement}
 use Rattle.types.proofs.optional.optional_size.Tie as tie
@@ -9,7 +9,7 @@ use Rattle.types.proofs.optional.optional_size.Tie as tie
 returns : tie.Need-returns
 returns c =
     let a = c .before .before .args in
-    (λ h. absent-seen (a .none) (a .tag) (a .x) (c .before .if1 .taken) (c .if2 .taken), omega (arith, c .before .before .pre))
+    (λ h. absent-known (a .none) (a .tag) (a .x) (c .before .if1 .taken) (c .if2 .taken), omega (arith, c .before .before .pre))
 
 returns-2 : tie.Need-returns-2
 returns-2 c = (λ h. absurd (omega arith), omega arith)
@@ -21,7 +21,7 @@ add-result c =
 returns-3 : tie.Need-returns-3
 returns-3 c =
     let a = c .before .before .before .args in (
-      λ h. present-seen (a .none) (a .tag) (a .x) (c .before .before .if1 .left) (c .before .value-size .ensures) (c .if3 .taken),
+      λ h. present-known (a .none) (a .tag) (a .x) (c .before .before .if1 .left) (c .before .value-size .ensures) (c .if3 .taken),
       omega (arith, c .before .value-size .ensures, value-small (a .tag) (a .x)),
     )
 

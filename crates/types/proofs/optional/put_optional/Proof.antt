@@ -1,7 +1,7 @@
 -- `put_optional` meets its contract: its stores are `absent-wrote` and `present-wrote`.
 use native.Mathlib.Omega.{arith}
 use denote.Ref.{now}
-use Rattle.fields.proofs.WroteLaws.{same-size}
+use Rattle.writing.proofs.WroteLaws.{same-size}
 use Rattle.writing.proofs.RowLaws.{optional-none, optional-some}
 use Rattle.types.proofs.SmallLaws.{absent-wrote, present-wrote}
 use borrow.Author.Needs.{needs}

@@ -2,7 +2,7 @@
 use native.Mathlib.Omega.{arith}
 use denote.Ref.{now}
 use lib.ListN.{length-set}
-use Rattle.fields.proofs.WroteLaws.{same-size}
+use Rattle.writing.proofs.WroteLaws.{same-size}
 use Rattle.writing.proofs.RowLaws.{result-none, result-some}
 use Rattle.types.proofs.SmallLaws.{no-result-wrote, result-wrote}
 use borrow.Author.Needs.{needs}

@@ -3,8 +3,8 @@ use native.Mathlib.Omega.{arith}
 use Prim.Native.Nat.{_+_}
 use denote.Ref.{now}
 use lib.ListN.{set, length-set}
-use Rattle.fields.specs.Binary.{word}
-use Rattle.fields.proofs.WroteLaws.{same-size}
+use Rattle.fields.specs.Words.{word}
+use Rattle.writing.proofs.WroteLaws.{same-size}
 use Rattle.types.proofs.SmallLaws.{no-destructor, some-destructor, resource-alone, resource-wrote}
 use borrow.Author.Needs.{needs}
 use Rattle.types.proofs.resource.put_resource.Statement.{statement}

@@ -1,6 +1,6 @@
 -- `rep_byte` meets its contract: its test is that of `representation`.
 use borrow.Author.Tests.{eq-eqb, ne-eqb}
-use Rattle.fields.specs.Binary.{representation}
+use Rattle.writing.specs.Binary.{representation}
 use Rattle.types.proofs.resource.rep_byte.Statement.{statement}
 use Rattle.types.proofs.resource.rep_byte.Tie as tie
 

@@ -2,7 +2,7 @@
 use native.Mathlib.Omega.{arith}
 use denote.Ref.{now}
 use Rattle.numbers.proofs.LebLaws.{size-bounds}
-use Rattle.fields.specs.Binary.{word}
+use Rattle.fields.specs.Words.{word}
 use Rattle.writing.proofs.RowLaws.{value-small}
 use Rattle.types.proofs.SmallLaws.{fixed-row}
 use borrow.Author.Needs.{needs}

@@ -2,8 +2,9 @@
 use native.Mathlib.Omega.{arith}
 use denote.Ref.{now}
 use Rattle.numbers.specs.Leb.{unsigned}
-use Rattle.fields.specs.Binary.{word, valtype}
-use Rattle.fields.proofs.WroteLaws.{same-size}
+use Rattle.fields.specs.Words.{word}
+use Rattle.writing.specs.Binary.{valtype}
+use Rattle.writing.proofs.WroteLaws.{same-size}
 use Rattle.types.proofs.SmallLaws.{lead-next, lead-stores}
 use borrow.Author.Needs.{needs}
 use Rattle.types.proofs.small.put_fixed_row.Statement.{statement}

@@ -2,7 +2,7 @@
 use native.Mathlib.Omega.{arith}
 use denote.Ref.{now}
 use lib.ListN.{length-set}
-use Rattle.fields.proofs.WroteLaws.{then, then-byte, same-size}
+use Rattle.writing.proofs.WroteLaws.{then, then-byte, same-size}
 use Rattle.writing.proofs.GroupLaws.{byte-wrote}
 use borrow.Author.Needs.{needs}
 use Rattle.types.proofs.small.put_optionals_row.Statement.{statement}

@@ -1,6 +1,6 @@
 -- `put_primitive` meets its contract: a V of tag 0 is its byte (`primitive-wrote`).
 use denote.Ref.{now}
-use Rattle.fields.specs.Binary.{word}
+use Rattle.fields.specs.Words.{word}
 use Rattle.types.proofs.SmallLaws.{primitive-wrote}
 use borrow.Author.Needs.{needs}
 use Rattle.types.proofs.small.put_primitive.Statement.{statement}

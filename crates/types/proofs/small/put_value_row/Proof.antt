@@ -1,6 +1,6 @@
 -- `put_value_row` meets its contract: a byte and a V are stored one after the other (`lead-wrote`).
 use denote.Ref.{now}
-use Rattle.fields.proofs.WroteLaws.{same-size}
+use Rattle.writing.proofs.WroteLaws.{same-size}
 use Rattle.types.proofs.SmallLaws.{lead-wrote}
 use borrow.Author.Needs.{needs}
 use Rattle.types.proofs.small.put_value_row.Statement.{statement}

@@ -1,8 +1,9 @@
 -- `put_values_row` meets its contract: a byte and two V are stored one after the other (`lead-stores`).
 use native.Mathlib.Omega.{arith}
 use denote.Ref.{now}
-use Rattle.fields.specs.Binary.{word, valtype}
-use Rattle.fields.proofs.WroteLaws.{same-size}
+use Rattle.fields.specs.Words.{word}
+use Rattle.writing.specs.Binary.{valtype}
+use Rattle.writing.proofs.WroteLaws.{same-size}
 use Rattle.types.proofs.SmallLaws.{lead-next, lead-stores}
 use borrow.Author.Needs.{needs}
 use Rattle.types.proofs.small.put_values_row.Statement.{statement}

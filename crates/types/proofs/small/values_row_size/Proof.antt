@@ -1,7 +1,7 @@
 -- `values_row_size` meets its contract: what it tests is what `values-row` asks.
 use native.Mathlib.Omega.{arith}
 use denote.Ref.{now}
-use Rattle.fields.specs.Binary.{word}
+use Rattle.fields.specs.Words.{word}
 use Rattle.writing.proofs.RowLaws.{value-small}
 use Rattle.types.proofs.SmallLaws.{values-row}
 use borrow.Author.Needs.{needs}

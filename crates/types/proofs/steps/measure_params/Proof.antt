@@ -1,7 +1,7 @@
 -- `measure_params` meets its contract: what straight code sees has its size, and the rest is measured by the shape.
 use mathlib.Core.Path.{sym, ap, _∙_}
 use denote.Ref.{now}
-use Rattle.fields.specs.Write.{measured}
+use Rattle.writing.specs.Write.{measured}
 use borrow.Author.Needs.{needs}
 use Rattle.types.proofs.steps.measure_params.Statement.{statement}
 use Rattle.types.proofs.steps.measure_params.Tie as tie
@@ -16,5 +16,4 @@ returns-2 c =
 
 pub measure-params-spec : {M : Type 1} → statement M
 measure-params-spec =
-    tie.close
-    (tie.spec (search needs) returns (search needs) (search needs) returns-2)
+    tie.close (tie.spec (search needs) returns (search needs) (search needs) returns-2)

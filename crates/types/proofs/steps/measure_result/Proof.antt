@@ -1,7 +1,7 @@
 -- `measure_result` meets its contract: what straight code sees has its size, and the rest is measured by the shape.
 use mathlib.Core.Path.{sym, ap, _∙_}
 use mathlib.Core.List.{[], _∷_}
-use Rattle.fields.specs.Write.{measured}
+use Rattle.writing.specs.Write.{measured}
 use Rattle.types.proofs.StepLaws.{result-measured}
 use borrow.Author.Needs.{needs}
 use Rattle.types.proofs.steps.measure_result.Statement.{statement}

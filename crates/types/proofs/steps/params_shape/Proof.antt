@@ -12,5 +12,4 @@ returns-2 c = ap paramsShape (sym (c .if1 .left))
 
 pub params-shape-spec : {M : Type 1} → statement M
 params-shape-spec =
-    tie.close
-    (tie.spec returns returns-2)
+    tie.close (tie.spec returns returns-2)

@@ -6,8 +6,8 @@ use mathlib.Core.Path.{_≡_}
 use denote.Ref.{now}
 use lib.ListN.{length, getD}
 use Rattle.numbers.proofs.LebLaws.{size-bounds}
-use Rattle.types.specs.Write.{paramsLead}
-use Rattle.types.proofs.StepLaws.{lead-size, params-seen}
+use Rattle.types.specs.inside.Function.{paramsLead}
+use Rattle.types.proofs.StepLaws.{lead-size, params-known}
 use borrow.Author.Needs.{needs}
 use Rattle.types.proofs.steps.params_size.Statement.{statement}
 use Rattle.types.proofs.steps.params_size.Tie as tie
@@ -47,7 +47,7 @@ returns-3 c =
     let head : c .before .before .before .before .if5 .head ≡ length (paramsLead (a .first)) =
     ⊎-elim (λ w. lead-size (w .0 .taken) (w .1)) (λ w. lead-size (w .0 .left) (w .1))
     (c .before .before .before .before .if5 .came) in
-    λ h. params-seen (a .first) (now (a .words)) (now (a .pool)) (mid .before .if1 .left) (mid .if2 .left)
+    λ h. params-known (a .first) (now (a .words)) (now (a .pool)) (mid .before .if1 .left) (mid .if2 .left)
     (c .before .before .before .before .before .if4 .taken) (λ i. head i + c .before .before .unsigned-size .ensures i)
     (c .fields-size .ensures .0 h) (c .fields-size .ensures .1)
 

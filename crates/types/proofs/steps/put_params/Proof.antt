@@ -2,8 +2,8 @@
 use native.Mathlib.Omega.{arith}
 use mathlib.Core.Logic.{⊎-elim}
 use denote.Ref.{now}
-use Rattle.fields.specs.Run.{Wrote}
-use Rattle.types.specs.Write.{paramsLead}
+use Rattle.writing.specs.inside.Wrote.{Wrote}
+use Rattle.types.specs.inside.Function.{paramsLead}
 use Rattle.types.proofs.StepLaws.{lead-first, lead-none, lead-room, count-wrote, count-ends, fields-room, params-wrote, params-length}
 use borrow.Author.Needs.{needs}
 use Rattle.types.proofs.steps.put_params.Statement.{statement}

@@ -35,5 +35,4 @@ returns-3 c =
 
 pub write-async-spec : {M : Type 1} → statement M
 write-async-spec =
-    tie.close
-    (tie.spec returns (search needs) (search needs) (search needs) returns-2 returns-3)
+    tie.close (tie.spec returns (search needs) (search needs) (search needs) returns-2 returns-3)

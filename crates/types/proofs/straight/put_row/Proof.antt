@@ -3,11 +3,7 @@ use mathlib.Core.Path.{sym, ap, _∙_}
 use denote.Ref.{now}
 use Rattle.types.specs.Write.{shapeOf}
 use Rattle.writing.proofs.GroupLaws.{name-element, value-element, labelled-element, case-element}
-use Rattle.types.proofs.KindLaws.{as-kind, put-as, put-not, kind-other, kind-0, kind-1, kind-2, kind-3, kind-4, kind-5, kind-6, kind-7, kind-8}
-use Rattle.types.proofs.KindLaws.{kind-9, kind-10, kind-11, kind-12, kind-13, kind-14, kind-15, kind-16, label-wide, value-wide, labelled-wide}
-use Rattle.types.proofs.KindLaws.{case-wide, counted-fits, counted-bytes, primitive-fits, primitive-bytes, value-fits, value-bytes}
-use Rattle.types.proofs.KindLaws.{values-fits, values-bytes, fixed-fits, fixed-bytes, optionals-fits, optionals-bytes, index-fits, index-bytes}
-use Rattle.types.proofs.KindLaws.{optional-fits, optional-bytes, resource-fits, resource-bytes, function-fits, function-bytes}
+use Rattle.types.proofs.KindLaws.{as-kind, put-as, put-not, kind-other, kind-0, kind-1, kind-2, kind-3, kind-4, kind-5, kind-6, kind-7, kind-8, kind-9, kind-10, kind-11, kind-12, kind-13, kind-14, kind-15, kind-16, label-wide, value-wide, labelled-wide, case-wide, counted-fits, counted-bytes, primitive-fits, primitive-bytes, value-fits, value-bytes, values-fits, values-bytes, fixed-fits, fixed-bytes, optionals-fits, optionals-bytes, index-fits, index-bytes, optional-fits, optional-bytes, resource-fits, resource-bytes, function-fits, function-bytes}
 use borrow.Author.Needs.{needs}
 use Rattle.types.proofs.straight.put_row.Statement.{statement}
 use Rattle.types.proofs.straight.put_row.Tie as tie
@@ -246,11 +242,12 @@ returns-18 c =
 pub put-row-spec : {M : Type 1} → statement M
 put-row-spec =
     tie.close
-    (tie.spec
-    (search needs) put-primitive-requires put-record-requires put-variant-requires put-value-row-requires put-values-row-requires
-    put-fixed-row-requires put-tuple-requires put-labels-row-requires put-labels-row-requires-2 put-value-row-requires-2
-    put-optionals-row-requires put-index-row-requires put-index-row-requires-2 put-optional-row-requires put-optional-row-requires-2
-    put-function-requires put-resource-requires (search needs) returns (search needs) returns-2 (search needs) returns-3 (search needs)
-    returns-4 (search needs) returns-5 (search needs) returns-6 (search needs) returns-7 (search needs) returns-8 (search needs) returns-9
-    (search needs) returns-10 (search needs) returns-11 (search needs) returns-12 (search needs) returns-13 (search needs) returns-14
-    (search needs) returns-15 (search needs) returns-16 (search needs) returns-17 returns-18)
+    (tie.spec (search needs) put-primitive-requires put-record-requires put-variant-requires put-value-row-requires
+    put-values-row-requires put-fixed-row-requires put-tuple-requires put-labels-row-requires
+    put-labels-row-requires-2 put-value-row-requires-2 put-optionals-row-requires put-index-row-requires
+    put-index-row-requires-2 put-optional-row-requires put-optional-row-requires-2 put-function-requires
+    put-resource-requires (search needs) returns (search needs) returns-2 (search needs) returns-3 (search needs)
+    returns-4 (search needs) returns-5 (search needs) returns-6 (search needs) returns-7 (search needs) returns-8
+    (search needs) returns-9 (search needs) returns-10 (search needs) returns-11 (search needs) returns-12
+    (search needs) returns-13 (search needs) returns-14 (search needs) returns-15 (search needs) returns-16
+    (search needs) returns-17 returns-18)

@@ -1,8 +1,7 @@
 -- `row_size` meets its contract: each arm has its kind's line of the table (`measured-as`).
 use native.Mathlib.Omega.{arith}
 use denote.Ref.{now}
-use Rattle.types.proofs.KindLaws.{measured-as, kind-0, kind-1, kind-2, kind-3, kind-4, kind-5, kind-6, kind-7, kind-8, kind-9, kind-10}
-use Rattle.types.proofs.KindLaws.{kind-11, kind-12, kind-13, kind-14, kind-15, kind-16}
+use Rattle.types.proofs.KindLaws.{measured-as, kind-0, kind-1, kind-2, kind-3, kind-4, kind-5, kind-6, kind-7, kind-8, kind-9, kind-10, kind-11, kind-12, kind-13, kind-14, kind-15, kind-16}
 use borrow.Author.Needs.{needs}
 use Rattle.types.proofs.straight.row_size.Statement.{statement}
 use Rattle.types.proofs.straight.row_size.Tie as tie
@@ -138,8 +137,8 @@ returns-20 c = λ h. absurd (omega arith)
 pub row-size-spec : {M : Type 1} → statement M
 row-size-spec =
     tie.close
-    (tie.spec
-    returns returns-2 (search needs) (search needs) (search needs) (search needs) (search needs) (search needs) (search needs)
-    (search needs) (search needs) (search needs) (search needs) (search needs) (search needs) (search needs) (search needs) (search needs)
-    (search needs) (search needs) returns-3 returns-4 returns-5 returns-6 returns-7 returns-8 returns-9 returns-10 returns-11 returns-12
-    returns-13 returns-14 returns-15 returns-16 returns-17 returns-18 returns-19 returns-20)
+    (tie.spec returns returns-2 (search needs) (search needs) (search needs) (search needs) (search needs)
+    (search needs) (search needs) (search needs) (search needs) (search needs) (search needs) (search needs)
+    (search needs) (search needs) (search needs) (search needs) (search needs) (search needs) returns-3 returns-4
+    returns-5 returns-6 returns-7 returns-8 returns-9 returns-10 returns-11 returns-12 returns-13 returns-14
+    returns-15 returns-16 returns-17 returns-18 returns-19 returns-20)

@@ -261,13 +261,13 @@ returns-24 c = tried-none _ _ _ _ _
 pub write-small-spec : {M : Type 1} → statement M
 write-small-spec =
     tie.close
-    (tie.spec
-    returns (search needs) (search needs) (search needs) put-primitive-requires (search needs) returns-2 (search needs)
-    (search needs) put-value-row-requires (search needs) returns-3 (search needs) (search needs) put-values-row-requires
-    (search needs) returns-4 (search needs) (search needs) put-fixed-row-requires (search needs) returns-5 (search needs)
-    (search needs) put-value-row-requires-2 (search needs) returns-6 (search needs) (search needs) put-optionals-row-requires
-    (search needs) returns-7 (search needs) (search needs) put-index-row-requires (search needs) returns-8 (search needs)
-    (search needs) put-index-row-requires-2 (search needs) returns-9 (search needs) (search needs) put-optional-row-requires
-    (search needs) returns-10 (search needs) (search needs) put-optional-row-requires-2 (search needs) returns-11 (search needs)
-    (search needs) put-resource-requires (search needs) returns-12 returns-13 returns-14 returns-15 returns-16 returns-17
-    returns-18 returns-19 returns-20 returns-21 returns-22 returns-23 returns-24)
+    (tie.spec returns (search needs) (search needs) (search needs) put-primitive-requires (search needs) returns-2
+    (search needs) (search needs) put-value-row-requires (search needs) returns-3 (search needs) (search needs)
+    put-values-row-requires (search needs) returns-4 (search needs) (search needs) put-fixed-row-requires
+    (search needs) returns-5 (search needs) (search needs) put-value-row-requires-2 (search needs) returns-6
+    (search needs) (search needs) put-optionals-row-requires (search needs) returns-7 (search needs) (search needs)
+    put-index-row-requires (search needs) returns-8 (search needs) (search needs) put-index-row-requires-2
+    (search needs) returns-9 (search needs) (search needs) put-optional-row-requires (search needs) returns-10
+    (search needs) (search needs) put-optional-row-requires-2 (search needs) returns-11 (search needs) (search needs)
+    put-resource-requires (search needs) returns-12 returns-13 returns-14 returns-15 returns-16 returns-17 returns-18
+    returns-19 returns-20 returns-21 returns-22 returns-23 returns-24)

@@ -1,0 +1,11 @@
+pub mod ArmLaws
+pub mod CallLaws
+pub mod CountLaws
+pub mod EndLaws
+pub mod ItemLaws
+pub mod NameLaws
+pub mod OnceLaws
+pub mod ReadLaws
+pub mod ReferenceLaws
+pub mod StoreLaws
+pub mod WordLaws

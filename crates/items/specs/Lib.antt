@@ -1,0 +1,3 @@
+pub mod ReadImport
+pub mod ReadType
+pub mod inside

@@ -1,0 +1,4 @@
+pub mod Few
+pub mod Stages
+pub mod Steps
+pub mod Tried

@@ -1,0 +1,489 @@
+-- Names and extern names that are read, written again beside the bytes taken, give these bytes.
+use Prim.Native.Nat.{ℕ, _+_, _-_, _^_, _≤_, _<_}
+use native.Mathlib.Omega.{arith}
+use native.Mathlib.Numerals.{add-one}
+use mathlib.Core.Path.{_≡_, refl, sym, ap, _∙_}
+use mathlib.Core.Bool.{Bool, true, false, cond}
+use mathlib.Core.List.{List, [], _∷_, _++_, append-assoc}
+use borrow.Author.Tests.{ltb-true, leb-true, eqb-true, eqb-false, le-leb, ne-eqb}
+use lib.Dec.{eqb, ltb, leb}
+use lib.ListN.{length, take, drop, length-append, length-take, length-drop, take-append-drop}
+use lib.Seq.{length-take-le, take-add, take-take, take-at, drop-at, drop-drop, drop-cons}
+use Rattle.numbers.specs.declared.leb.Taken.{Taken}
+use Rattle.numbers.specs.declared.leb.Taken.the-variants as taken
+use Rattle.numbers.specs.Bytes.{Bytes}
+use Rattle.numbers.specs.Integers.{u32}
+use Rattle.numbers.specs.Leb.{unsigned, takeUnsigned}
+use Rattle.numbers.specs.Text.{text}
+use Rattle.numbers.proofs.LebLaws.{taken-only, taken-inside, one-byte}
+use Rattle.fields.specs.declared.Field.the-variants as field
+use Rattle.fields.specs.declared.Flaw.the-variants.{Right}
+use Rattle.fields.specs.declared.Refusal.the-variants.{Text, Code}
+use Rattle.fields.specs.declared.Leaf.{Leaf}
+use Rattle.fields.specs.declared.Leaf.the-variants.{Fine, Bad}
+use Rattle.fields.specs.Words.{word, chars, wide}
+use Rattle.writing.specs.Binary.{name, flag, slotAt, slotsAt, slots, externname, bytes}
+use Rattle.reading.specs.Fill.{sizeIn, valueIn, fillName, fillSlot, fillSlots, fillExtern, fill}
+use Rattle.writing.specs.Judge.{then, named, optionalName, flaw}
+use Rattle.reading.specs.Scan as scans
+use Rattle.reading.specs.Scan.{byte, cut, there, past, scanName, onward, stringAt, countAt, counted, slotScan, endScan, headScan, firstScan, secondScan, scanExtern}
+use Rattle.fields.specs.View.{view}
+use Rattle.round_trip.proofs.ExternBack.{NameRight, Slot, absent, present, slotOf, headOf, no-slot, head-and-slots}
+use Rattle.round_trip.proofs.Only.{Only, only-words}
+use Rattle.round_trip.proofs.ScanOnly.{there-fine, asked-fine, past-fine, Either, first, second, either-fine, bytes-behind}
+use Rattle.numbers.proofs.Impossible.{impossible}
+
+-- ---- parts of lists
+
+-- a part that ends within the front e of a list
+part-of : (n s e : ℕ) (l : List ℕ) → s + n ≤ e → s ≤ length l → take n (drop s (take e l)) ≡ take n (drop s l)
+part-of n s e l h k =
+    let a : e ≡ s + (e - s) = omega arith in
+    ap (λ m. take n (drop s (take m l))) a
+    ∙ ap (λ m. take n (drop s m)) (take-add s (e - s) l)
+    ∙ ap (λ m. take n m) (drop-at (take s l) (take (e - s) (drop s l)) s (length-take-le s l k))
+    ∙ take-take n (e - s) (drop s l) (omega arith)
+
+front-length : (n e : ℕ) (l : List ℕ) → n ≤ e → n ≤ length l → n ≤ length (take e l)
+front-length n e l h k = omega (arith, length-take e l)
+
+-- a byte and what stands behind it
+byte-and : (xs : List ℕ) (at y : ℕ) → at < length xs → byte xs at ≡ y → y ∷ drop (at + 1) xs ≡ drop at xs
+byte-and xs at y h e =
+    ap (λ n. n ∷ drop (at + 1) xs) (sym e) ∙ ap (λ i. byte xs at ∷ drop i xs) (add-one at) ∙ sym (drop-cons xs at 0 h)
+
+onward-fine : (l : Leaf) (k : ℕ → ℕ → Leaf) (t m : ℕ) → onward l k ≡ Fine t m → (a c : ℕ) × (l ≡ Fine a c) × (k a c ≡ Fine t m)
+onward-fine (Fine a c) k t m e = (a, c, refl, e)
+onward-fine (Bad w j) k t m e = impossible cc
+
+-- lead, name and count, with what stands behind them
+head-again : (xs nm : List ℕ) (n h a : ℕ) → (n ≡ 0 → ⊥) → n ∷ drop h xs ≡ drop a xs → nm ++ drop a xs ≡ drop 1 xs → 0x02 ∷ drop 1 xs ≡ xs
+    → headOf n nm ++ drop h xs ≡ xs
+head-again xs nm n h a some count string lead =
+    simp (ne-eqb n 0 some) (ap (λ l. 0x02 ∷ l) (append-assoc nm (n ∷ []) (drop h xs) ∙ ap (λ l. nm ++ l) count ∙ string) ∙ lead)
+
+-- ---- words that are right are judged so
+
+pub name-judged : {pool : List ℕ} {start size : ℕ} → NameRight pool start size → (ws : List ℕ) (i : ℕ)
+    → word ws i ≡ start → word ws (i + 1) ≡ size → named pool ws i ≡ Right
+unfolding named
+name-judged {pool} {start} {size} r ws i a c = simp (a, c, le-leb (start + size) (length pool) (r .inside), r .says)
+
+pub slot-judged : {pool : List ℕ} {w start size : ℕ} → Slot pool w start size → (ws : List ℕ) (i : ℕ)
+    → word ws i ≡ w → word ws (i + 1) ≡ start → word ws (i + 2) ≡ size → optionalName pool ws i ≡ Right
+unfolding optionalName
+slot-judged absent ws i a c d = simp (a, c, d)
+slot-judged {pool} {w} {start} {size} (present r) ws i a c d =
+    let plus : i + 1 + 1 ≡ i + 2 = omega arith in
+    simp a (name-judged r ws (i + 1) c (ap (λ k. word ws k) plus ∙ d))
+
+-- ---- a name
+
+-- the numbers of a name that is scanned
+pub record NameFound (l : List ℕ) (t m : ℕ) : Type 0 where
+  pub size : ℕ
+  pub number : ℕ
+  pub found : takeUnsigned l ≡ taken.Value size number
+  pub small : size < 2 ^ 32
+  pub some : 0 < number
+  pub again : unsigned size ≡ take number l
+  pub whole : t ≡ number + size
+  pub inside : t ≤ length l
+  pub says : text (take size (drop number l)) ≡ true
+  pub makes : m ≡ 2
+
+pub name-found : (l : List ℕ) (t m : ℕ) → Bytes l → scanName l ≡ Fine t m → NameFound l t m
+unfolding scanName
+name-found l t m f e = go (takeUnsigned l) refl e
+  where
+    go : (r : Taken) → takeUnsigned l ≡ r → scans.named l r ≡ Fine t m → NameFound l t m
+    go (taken.Value n k) q e = test (leb (k + n) (length l)) (text (take n (drop k l))) refl refl e
+      where
+        test : (a b : Bool) → leb (k + n) (length l) ≡ a → text (take n (drop k l)) ≡ b
+            → cond a (cond b (Fine (k + n) 2) (Bad Text k)) (cut l) ≡ Fine t m → NameFound l t m
+        test true true ha hb e =
+            let et : k + n ≡ t = cc in
+            let o = taken-only u32 l n k f q in
+            let i = taken-inside u32 l n k q in
+            let j : k + n ≤ length l = leb-true _ _ ha in
+            record {
+              size = n;
+              number = k;
+              found = q;
+              small = o .1;
+              some = i .0;
+              again = sym (o .0);
+              whole = sym et;
+              inside = omega arith;
+              says = hb;
+              makes = cc;
+            }
+        test true false ha hb e = impossible cc
+        test false b ha hb e = impossible cc
+    go taken.Cut q e = impossible cc
+    go taken.Bad q e = impossible cc
+
+-- a name at `from` of xs, which stands at b of the input, beside the first e bytes of the input
+pub record NameSeen (e : ℕ) (input xs : List ℕ) (b from t : ℕ) : Type 0 where
+  pub start : ℕ
+  pub size : ℕ
+  pub fills : fillName b xs from ≡ start ∷ size ∷ []
+  pub right : NameRight (take e input) start size
+  pub again : name (take e input) start size ≡ take t (drop from xs)
+  pub says : chars (take e input) start size ≡ chars input start size
+
+module _ (e : ℕ) (input xs : List ℕ) (b : ℕ) (inp : drop b input ≡ xs) (fx : Bytes xs) where
+  pub name-seen : (from t m : ℕ) → scanName (drop from xs) ≡ Fine t m → b + (from + t) ≤ e → NameSeen e input xs b from t
+  unfolding fillName name
+  name-seen from t m s h =
+      let l = drop from xs in
+      let r = name-found l t m (bytes-behind xs from fx) s in
+      let n = r .size in
+      let k = r .number in
+      let st = b + (from + k) in
+      let et = r .whole in
+      let il = r .inside in
+      let some = r .some in
+      let lx : length l ≡ length xs - from = length-drop from xs in
+      let li : length xs ≡ length input - b = sym (ap length inp) ∙ length-drop b input in
+      let in₁ : st + n ≤ e = omega arith in
+      let in₂ : st + n ≤ length input = omega arith in
+      let part : chars (take e input) st n ≡ chars input st n = part-of n st e input in₁ (omega arith) in
+      let place : drop st input ≡ drop k l =
+      sym (drop-drop (from + k) b input) ∙ ap (λ l. drop (from + k) l) inp ∙ sym (drop-drop k from xs) in
+      let here : chars (take e input) st n ≡ take n (drop k l) = part ∙ ap (λ l. take n l) place in
+      record {
+        start = st;
+        size = n;
+        fills = ap (λ r. (b + (from + sizeIn r)) ∷ valueIn r ∷ []) (r .found);
+        right = record { inside = front-length (st + n) e input in₁ in₂; says = ap (λ l. text l) here ∙ r .says; small = r .small };
+        again = (λ i. r .again i ++ here i) ∙ sym (take-add k n l) ∙ ap (λ k. take k l) (sym et);
+        says = part;
+      }
+
+  -- a string at `at`: the name, and what follows it
+  pub record StringSeen (at a′ : ℕ) : Type 0 where
+    pub t : ℕ
+    pub scanned : scanName (drop at xs) ≡ Fine t 2
+    pub place : a′ ≡ at + t
+    pub before : at < length xs
+    pub inside : a′ ≤ length xs
+
+  pub string-seen : (at x a′ y : ℕ) → stringAt xs at x ≡ Fine a′ y → StringSeen at a′ × (y ≡ x)
+  string-seen at x a′ y s =
+      let o = onward-fine (past at (scanName (drop at xs))) (λ next m. Fine next x) a′ y s in
+      let p = past-fine at (scanName (drop at xs)) (o .0) (o .1) (o .2) in
+      let r = name-found (drop at xs) (p .0) (o .1) (bytes-behind xs at fx) (p .1) in
+      let e₁ : o .0 ≡ a′ = let q = o .3 in cc in
+      let e₂ : x ≡ y = let q = o .3 in cc in
+      let ep = p .2 in
+      let some = r .some in
+      let whole = r .whole in
+      let inside = r .inside in
+      let ld = length-drop at xs in (
+        record {
+          t = p .0;
+          scanned = p .1 ∙ ap (λ m. Fine (p .0) m) (r .makes);
+          place = sym e₁ ∙ ep;
+          before = omega arith;
+          inside = omega arith;
+        },
+        sym e₂,
+      )
+
+  -- its bytes, and what stands behind them
+  string-bytes : (at a′ : ℕ) (k : StringSeen at a′) (h : b + a′ ≤ e) (v : NameSeen e input xs b at (k .t))
+      → name (take e input) (v .start) (v .size) ++ drop a′ xs ≡ drop at xs
+  string-bytes at a′ k h v =
+      ap (λ l. l ++ drop a′ xs) (v .again)
+      ∙ ap (λ l. take (k .t) (drop at xs) ++ l) (ap (λ i. drop i xs) (k .place) ∙ sym (drop-drop (k .t) at xs))
+      ∙ take-append-drop (k .t) (drop at xs)
+
+  string-name : (at a′ : ℕ) (k : StringSeen at a′) → b + a′ ≤ e → NameSeen e input xs b at (k .t)
+  string-name at a′ k h = let p = k .place in name-seen at (k .t) 2 (k .scanned) (omega arith)
+
+  -- ---- an option
+
+  pub record SlotSeen (k at left a′ left′ : ℕ) : Type 0 where
+    pub w : ℕ
+    pub start : ℕ
+    pub size : ℕ
+    pub right : Slot (take e input) w start size
+    pub fills : fillSlot k b xs (Fine at left) ≡ w ∷ start ∷ size ∷ []
+    pub count : left ≡ flag w + left′
+    pub again : slotOf (take e input) k w start size ++ drop a′ xs ≡ drop at xs
+    pub says : chars (take e input) start size ≡ chars input start size
+
+  -- an option goes on, and stays inside
+  slot-grows : (k at left a′ left′ : ℕ) → slotScan k xs at left ≡ Fine a′ left′ → (at ≤ a′) × (at ≤ length xs → a′ ≤ length xs)
+  unfolding slotScan
+  slot-grows k at left a′ left′ s = go (eqb left 0) s
+    where
+      there-is : (z : Bool) → cond z (stringAt xs (at + 1) (left - 1)) (Fine at left) ≡ Fine a′ left′ → (at ≤ a′) × (at ≤ length xs → a′ ≤ length xs)
+      there-is true s =
+          let k = string-seen (at + 1) (left - 1) a′ left′ s .0 in
+          let p = k .place in
+          (omega arith, λ h. k .inside)
+      there-is false s = let p : at ≡ a′ = cc in (omega arith, λ h. omega arith)
+
+      go : (x : Bool)
+          → cond x (Fine at 0) (there xs at (cond (eqb (byte xs at) k) (stringAt xs (at + 1) (left - 1)) (Fine at left))) ≡ Fine a′ left′
+          → (at ≤ a′) × (at ≤ length xs → a′ ≤ length xs)
+      go true s = let p : at ≡ a′ = cc in (omega arith, λ h. omega arith)
+      go false s = there-is (eqb (byte xs at) k) (there-fine xs at _ a′ left′ s .1)
+
+  slot-seen : (k at left a′ left′ : ℕ) → slotScan k xs at left ≡ Fine a′ left′ → b + a′ ≤ e → SlotSeen k at left a′ left′
+  unfolding slotScan fillSlot flag
+  slot-seen k at left a′ left′ s h = go (eqb left 0) refl s
+    where
+      stays : a′ ≡ at → left′ ≡ left → fillSlot k b xs (Fine at left) ≡ 0 ∷ 0 ∷ 0 ∷ [] → SlotSeen k at left a′ left′
+      stays p q g =
+          record {
+            w = 0;
+            start = 0;
+            size = 0;
+            right = absent;
+            fills = g;
+            count = omega arith;
+            again = ap (λ i. drop i xs) p;
+            says = refl;
+          }
+
+      there-is : (z : Bool) → eqb (byte xs at) k ≡ z → eqb left 0 ≡ false → at < length xs
+          → cond z (stringAt xs (at + 1) (left - 1)) (Fine at left) ≡ Fine a′ left′ → SlotSeen k at left a′ left′
+      there-is true hz hx i s =
+          let y = string-seen (at + 1) (left - 1) a′ left′ s in
+          let v = string-name (at + 1) a′ (y .0) h in
+          let nz = eqb-false left 0 hx in
+          let el = y .1 in
+          record {
+            w = 1;
+            start = v .start;
+            size = v .size;
+            right = present (v .right);
+            fills = simp (hx, hz) (ap (λ l. 1 ∷ l) (v .fills));
+            count = omega arith;
+            again = ap (λ l. k ∷ l) (string-bytes (at + 1) a′ (y .0) h v) ∙ byte-and xs at k i (eqb-true _ _ hz);
+            says = v .says;
+          }
+      there-is false hz hx i s = stays (cc) (cc) (simp (hx, hz))
+
+      go : (x : Bool) → eqb left 0 ≡ x
+          → cond x (Fine at 0) (there xs at (cond (eqb (byte xs at) k) (stringAt xs (at + 1) (left - 1)) (Fine at left))) ≡ Fine a′ left′
+          → SlotSeen k at left a′ left′
+      go true hx s =
+          let z : left ≡ 0 = eqb-true left 0 hx in
+          let p : at ≡ a′ = cc in
+          let q : 0 ≡ left′ = cc in
+          stays (sym p) (omega arith) (simp hx)
+      go false hx s = let p = there-fine xs at _ a′ left′ s in there-is (eqb (byte xs at) k) refl hx (p .0) (p .1)
+
+  -- ---- lead, name and count
+
+  pub record HeadSeen (h n : ℕ) : Type 0 where
+    pub start : ℕ
+    pub size : ℕ
+    pub fills : fillName b xs 1 ≡ start ∷ size ∷ []
+    pub right : NameRight (take e input) start size
+    pub again : headOf n (name (take e input) start size) ++ drop h xs ≡ xs
+    pub says : chars (take e input) start size ≡ chars input start size
+
+  record Counted (at h n : ℕ) : Type 0 where
+    pub some : n ≡ 0 → ⊥
+    pub before : at ≤ h
+    pub inside : h ≤ length xs
+    pub again : n ∷ drop h xs ≡ drop at xs
+
+  count-seen : (at h n : ℕ) → countAt xs at ≡ Fine h n → Counted at h n
+  unfolding countAt
+  count-seen at h n s = go (takeUnsigned (drop at xs)) refl s
+    where
+      l : List ℕ
+      l = drop at xs
+
+      go : (r : Taken) → takeUnsigned l ≡ r → counted (length xs) r at ≡ Fine h n → Counted at h n
+      go (taken.Value c k) q s = test (eqb c 0) (ltb c 4) refl refl s
+        where
+          test : (x y : Bool) → eqb c 0 ≡ x → ltb c 4 ≡ y → cond x (Bad Code at) (cond y (Fine (at + k) c) (Bad Code at)) ≡ Fine h n → Counted at h n
+          test true y hx hy s = impossible cc
+          test false true hx hy s =
+              let ec : c ≡ n = cc in
+              let eh : at + k ≡ h = cc in
+              let four = ltb-true c 4 hy in
+              let o = taken-only u32 l c k (bytes-behind xs at fx) q in
+              let i = taken-inside u32 l c k q in
+              let one : c ∷ [] ≡ take k l = sym (one-byte 128 c (omega arith)) ∙ sym (o .0) in
+              let nz = eqb-false c 0 hx in
+              record {
+                some = λ z. nz (ec ∙ z);
+                before = omega arith;
+                inside = omega (arith, length-drop at xs, i);
+                again =
+                    ap (λ c. c ∷ drop h xs) (sym ec)
+                    ∙ ap (λ l. l ++ drop h xs) one
+                    ∙ ap (λ m. take k l ++ m) (ap (λ i. drop i xs) (sym eh) ∙ sym (drop-drop k at xs))
+                    ∙ take-append-drop k l;
+              }
+          test false false hx hy s = impossible cc
+      go taken.Cut q s = impossible cc
+      go taken.Bad q s = impossible cc
+
+  head-inside : (g h n : ℕ) → headScan g xs ≡ Fine h n → h ≤ length xs
+  unfolding headScan
+  head-inside g h n s = go (either-fine xs 0x00 _ 0x02 _ h n s .1)
+    where
+      go : Either (byte xs 0) 0x00 (stringAt xs 1 0) 0x02 (scans.asked g 3 0 (onward (stringAt xs 1 0) (λ at left. countAt xs at))) h n → h ≤ length xs
+      go (first y s) = string-seen 1 0 h n s .0 .inside
+      go (second y d s) =
+          let o = onward-fine (stringAt xs 1 0) (λ at left. countAt xs at) h n (asked-fine g 3 0 _ h n s) in
+          count-seen (o .0) h n (o .3) .inside
+
+  head-seen : (g h n : ℕ) → headScan g xs ≡ Fine h n → b + h ≤ e → HeadSeen h n
+  unfolding headScan
+  head-seen g h n s le = let p = either-fine xs 0x00 _ 0x02 _ h n s in go (p .0) (p .1)
+    where
+      go : 0 < length xs
+          → Either (byte xs 0) 0x00 (stringAt xs 1 0) 0x02 (scans.asked g 3 0 (onward (stringAt xs 1 0) (λ at left. countAt xs at))) h n → HeadSeen h n
+      go i (first y s) =
+          let k = string-seen 1 0 h n s in
+          let v = string-name 1 h (k .0) le in
+          record {
+            start = v .start;
+            size = v .size;
+            fills = v .fills;
+            right = v .right;
+            again =
+                ap (λ k. headOf k (name (take e input) (v .start) (v .size)) ++ drop h xs) (k .1)
+                ∙ ap (λ l. 0x00 ∷ l) (string-bytes 1 h (k .0) le v)
+                ∙ byte-and xs 0 0x00 i y;
+            says = v .says;
+          }
+      go i (second y d s) =
+          let o = onward-fine (stringAt xs 1 0) (λ at left. countAt xs at) h n (asked-fine g 3 0 _ h n s) in
+          let a = o .0 in
+          let k = string-seen 1 0 a (o .1) (o .2) in
+          let c = count-seen a h n (o .3) in
+          let lo = c .before in
+          let le′ : b + a ≤ e = omega arith in
+          let v = string-name 1 a (k .0) le′ in
+          let nm = name (take e input) (v .start) (v .size) in
+          record {
+            start = v .start;
+            size = v .size;
+            fills = v .fills;
+            right = v .right;
+            again = head-again xs nm n h a (c .some) (c .again) (string-bytes 1 a (k .0) le′ v) (byte-and xs 0 0x02 i y);
+            says = v .says;
+          }
+
+  -- ---- the parts together
+
+  extern-parts : (g t m h n a₁ n₁ a₂ n₂ a₃ n₃ : ℕ) → headScan g xs ≡ Fine h n → firstScan g xs ≡ Fine a₁ n₁ → secondScan g xs ≡ Fine a₂ n₂
+      → HeadSeen h n → SlotSeen 0x00 h n a₁ n₁ → SlotSeen 0x01 a₁ n₁ a₂ n₂ → SlotSeen 0x02 a₂ n₂ a₃ n₃ → n₃ ≡ 0 → a₃ ≡ t → t ≤ length xs → m ≡ 11
+      → Only g (take e input) input field.ExternName xs t m b
+  unfolding fillExtern fillSlots externname slotsAt slotAt slots flaw bytes fill view wide
+  extern-parts g t m h n a₁ n₁ a₂ n₂ a₃ n₃ s₀ s₁ s₂ hd g₀ g₁ g₂ z et inside em =
+      let f₀ = ap (λ l. fillSlot 0x00 b xs l) s₀ ∙ g₀ .fills in
+      let f₁ = ap (λ l. fillSlot 0x01 b xs l) s₁ ∙ g₁ .fills in
+      let f₂ = ap (λ l. fillSlot 0x02 b xs l) s₂ ∙ g₂ .fills in
+      only-words words (λ i. hd .fills i ++ (f₀ i ++ (f₁ i ++ f₂ i))) refl em inside right again
+      (λ more i. (hd .size ∷ hd .says i)
+      ++ ((g₀ .w ∷ g₀ .size ∷ g₀ .says i) ++ ((g₁ .w ∷ g₁ .size ∷ g₁ .says i) ++ (g₂ .w ∷ g₂ .size ∷ g₂ .says i))))
+    where
+      pool : List ℕ
+      pool = take e input
+
+      words : List ℕ
+      words =
+          (hd .start ∷ hd .size ∷ [])
+          ++ ((g₀ .w ∷ g₀ .start ∷ g₀ .size ∷ []) ++ ((g₁ .w ∷ g₁ .start ∷ g₁ .size ∷ []) ++ (g₂ .w ∷ g₂ .start ∷ g₂ .size ∷ [])))
+
+      right : (more : List ℕ) → flaw pool field.ExternName (words ++ more) ≡ Right
+      right more =
+          let a = name-judged (hd .right) (words ++ more) 0 refl refl in
+          let c = slot-judged (g₀ .right) (words ++ more) 2 refl refl refl in
+          let d = slot-judged (g₁ .right) (words ++ more) 5 refl refl refl in
+          let f = slot-judged (g₂ .right) (words ++ more) 8 refl refl refl in
+          λ i. then (a i) (then (c i) (then (d i) (f i)))
+
+      nm : List ℕ
+      nm = name pool (hd .start) (hd .size)
+
+      o₀ : List ℕ
+      o₀ = slotOf pool 0x00 (g₀ .w) (g₀ .start) (g₀ .size)
+
+      o₁ : List ℕ
+      o₁ = slotOf pool 0x01 (g₁ .w) (g₁ .start) (g₁ .size)
+
+      o₂ : List ℕ
+      o₂ = slotOf pool 0x02 (g₂ .w) (g₂ .start) (g₂ .size)
+
+      many : ℕ
+      many = flag (g₀ .w) + (flag (g₁ .w) + flag (g₂ .w))
+
+      count : many ≡ n
+      count = omega (arith, g₀ .count, g₁ .count, g₂ .count)
+
+      empty : many ≡ 0 → o₀ ++ (o₁ ++ o₂) ≡ []
+      empty z =
+          let a = no-slot (g₀ .w) (0x00 ∷ name pool (g₀ .start) (g₀ .size)) (omega arith) in
+          let c = no-slot (g₁ .w) (0x01 ∷ name pool (g₁ .start) (g₁ .size)) (omega arith) in
+          let d = no-slot (g₂ .w) (0x02 ∷ name pool (g₂ .start) (g₂ .size)) (omega arith) in
+          λ i. a i ++ (c i ++ d i)
+
+      options : (o₀ ++ (o₁ ++ o₂)) ++ drop t xs ≡ drop h xs
+      options =
+          append-assoc o₀ (o₁ ++ o₂) (drop t xs)
+          ∙ ap (λ l. o₀ ++ l)
+          (append-assoc o₁ o₂ (drop t xs)
+          ∙ ap (λ l. o₁ ++ l) (ap (λ i. o₂ ++ drop i xs) (sym et) ∙ g₂ .again)
+          ∙ g₁ .again)
+          ∙ g₀ .again
+
+      again : (more : List ℕ) → bytes pool field.ExternName (words ++ more) ≡ take t xs
+      again more =
+          let bs = externname pool (words ++ more) in
+          let all : bs ++ drop t xs ≡ xs =
+          ap (λ l. l ++ drop t xs) (head-and-slots many nm (o₀ ++ (o₁ ++ o₂)) empty)
+          ∙ append-assoc (headOf many nm) (o₀ ++ (o₁ ++ o₂)) (drop t xs)
+          ∙ ap (λ l. headOf many nm ++ l) options
+          ∙ ap (λ k. headOf k nm ++ drop h xs) count
+          ∙ hd .again in
+          let long : length bs ≡ t = omega (arith, ap length all, length-append bs (drop t xs), length-drop t xs) in
+          sym (take-at bs (drop t xs) t long) ∙ ap (λ l. take t l) all
+
+-- ---- the whole
+
+end-fine : (xs : List ℕ) (at left t m : ℕ) → endScan xs at left ≡ Fine t m → (left ≡ 0) × (at ≡ t) × (m ≡ 11)
+unfolding endScan
+end-fine xs at left t m s = go (eqb left 0) refl s
+  where
+    go : (x : Bool) → eqb left 0 ≡ x → cond x (Fine at 11) (there xs at (Bad Code at)) ≡ Fine t m → (left ≡ 0) × (at ≡ t) × (m ≡ 11)
+    go true h s = (eqb-true _ _ h, (cc), (cc))
+    go false h s = let p = there-fine xs at (Bad Code at) t m s .1 in impossible cc
+
+pub extern-only : (g e : ℕ) (input : List ℕ) (b t m : ℕ) → Bytes (drop b input) → scanExtern g (drop b input) ≡ Fine t m → b + t ≤ e
+    → Only g (take e input) input field.ExternName (drop b input) t m b
+unfolding scanExtern firstScan secondScan
+extern-only g e input b t m fx s le =
+    let xs = drop b input in
+    let k₃ = onward-fine (onward (secondScan g xs) (slotScan 0x02 xs)) (endScan xs) t m s in
+    let k₂ = onward-fine (secondScan g xs) (slotScan 0x02 xs) (k₃ .0) (k₃ .1) (k₃ .2) in
+    let k₁ = onward-fine (firstScan g xs) (slotScan 0x01 xs) (k₂ .0) (k₂ .1) (k₂ .2) in
+    let k₀ = onward-fine (headScan g xs) (slotScan 0x00 xs) (k₁ .0) (k₁ .1) (k₁ .2) in
+    let f = end-fine xs (k₃ .0) (k₃ .1) t m (k₃ .3) in
+    let l₂ = slot-grows e input xs b refl fx 0x02 (k₂ .0) (k₂ .1) (k₃ .0) (k₃ .1) (k₂ .3) in
+    let l₁ = slot-grows e input xs b refl fx 0x01 (k₁ .0) (k₁ .1) (k₂ .0) (k₂ .1) (k₁ .3) in
+    let l₀ = slot-grows e input xs b refl fx 0x00 (k₀ .0) (k₀ .1) (k₁ .0) (k₁ .1) (k₀ .3) in
+    let in₃ : k₃ .0 ≤ length xs = l₂ .1 (l₁ .1 (l₀ .1 (head-inside e input xs b refl fx g (k₀ .0) (k₀ .1) (k₀ .2)))) in
+    let f₀ = f .0 in
+    let f₁ = f .1 in
+    let m₂ = l₂ .0 in
+    let m₁ = l₁ .0 in
+    let m₀ = l₀ .0 in
+    let hd = head-seen e input xs b refl fx g (k₀ .0) (k₀ .1) (k₀ .2) (omega arith) in
+    let g₀ = slot-seen e input xs b refl fx 0x00 (k₀ .0) (k₀ .1) (k₁ .0) (k₁ .1) (k₀ .3) (omega arith) in
+    let g₁ = slot-seen e input xs b refl fx 0x01 (k₁ .0) (k₁ .1) (k₂ .0) (k₂ .1) (k₁ .3) (omega arith) in
+    let g₂ = slot-seen e input xs b refl fx 0x02 (k₂ .0) (k₂ .1) (k₃ .0) (k₃ .1) (k₂ .3) (omega arith) in
+    extern-parts e input xs b refl fx g t m (k₀ .0) (k₀ .1) (k₁ .0) (k₁ .1) (k₂ .0) (k₂ .1) (k₃ .0) (k₃ .1) (k₀ .2) (k₁ .2) (k₂ .2)
+    hd g₀ g₁ g₂ f₀ f₁ (omega arith) (f .2)

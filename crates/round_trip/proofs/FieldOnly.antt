@@ -1,0 +1,132 @@
+-- What is read of a field, written again beside the bytes taken, gives the field's bytes.
+use Prim.Native.Nat.{ℕ, _+_, _≤_, _<_}
+use native.Mathlib.Omega.{arith}
+use native.Mathlib.Numerals.{add-one}
+use mathlib.Core.Path.{_≡_, refl, sym, ap, _∙_}
+use mathlib.Core.Bool.{Bool, true, false, cond}
+use mathlib.Core.List.{List, [], _∷_, _++_}
+use borrow.Author.Tests.{eqb-true}
+use lib.Dec.{eqb}
+use lib.ListN.{length, take, drop}
+use lib.Seq.{take-suc}
+use Rattle.numbers.specs.Bytes.{Bytes}
+use Rattle.fields.specs.declared.Field.{Field}
+use Rattle.fields.specs.declared.Field.the-variants as field
+use Rattle.fields.specs.declared.Flaw.the-variants.{Right}
+use Rattle.fields.specs.declared.Refusal.the-variants.{Code}
+use Rattle.fields.specs.declared.Leaf.{Leaf}
+use Rattle.fields.specs.declared.Leaf.the-variants.{Fine, Bad}
+use Rattle.writing.specs.Binary.{optional, functype, flag, representation, bytes}
+use Rattle.reading.specs.Fill.{fillOptional, fill}
+use Rattle.fields.specs.Words.{wide}
+use Rattle.writing.specs.Judge.{below, flaw}
+use Rattle.reading.specs.Scan.{byte, asked, thenZero, scanOptional, scan}
+use Rattle.fields.specs.View.{view}
+use Rattle.round_trip.proofs.ExternOnly.{name-found, name-seen, name-judged, extern-only}
+use Rattle.round_trip.proofs.FieldBack.{Optioned, Bit, off, on}
+use Rattle.round_trip.proofs.Only.{Only, only-words}
+use Rattle.round_trip.proofs.ScanOnly.{there-fine, asked-fine, front, bytes-behind, index-seen, prime-seen, PairSeen, value-seen, optional-seen, result-seen, present-seen, choice-seen, bit-seen, reference-seen, prime-judged, value-judged, optional-judged, present-judged, choice-judged, reference-judged}
+use Rattle.numbers.proofs.Impossible.{impossible}
+
+-- a byte 00 behind an optional value
+zero-seen : (g : ℕ) (xs : List ℕ) (t m : ℕ) → Bytes xs → thenZero xs (scanOptional g xs) ≡ Fine t m
+    → PairSeen Optioned (λ k x. optional k x ++ 0x00 ∷ []) (fillOptional 0x01 xs) xs t m
+zero-seen g xs t m f e = go (scanOptional g xs) refl e
+  where
+    go : (l : Leaf) → scanOptional g xs ≡ l → thenZero xs l ≡ Fine t m
+        → PairSeen Optioned (λ k x. optional k x ++ 0x00 ∷ []) (fillOptional 0x01 xs) xs t m
+    go (Bad w j) s e = impossible cc
+    go (Fine a c) s e = let p = there-fine xs a _ t m e in zero (eqb (byte xs a) 0) refl (p .0) (p .1)
+      where
+        zero : (b : Bool) → eqb (byte xs a) 0 ≡ b → a < length xs → cond b (Fine (a + 1) c) (Bad Code a) ≡ Fine t m
+            → PairSeen Optioned (λ k x. optional k x ++ 0x00 ∷ []) (fillOptional 0x01 xs) xs t m
+        zero true q h e =
+            let o = optional-seen g xs a c f s in
+            let et : a + 1 ≡ t = cc in
+            let ec : c ≡ m = cc in
+            let z = sym (eqb-true (byte xs a) 0 q) in
+            record {
+              a = o .a;
+              b = o .b;
+              right = o .right;
+              fills = o .fills;
+              again = (λ i. o .again i ++ z i ∷ []) ∙ sym (take-suc xs a 0 h) ∙ ap (λ k. take k xs) (sym (add-one a) ∙ et);
+              inside = omega arith;
+              makes = sym ec ∙ o .makes;
+            }
+        zero false q h e = impossible cc
+
+bit-judged : {k : ℕ} (more : List ℕ) → Bit k → below 2 (k ∷ more) 0 ≡ Right
+bit-judged more off = refl
+bit-judged more on = refl
+
+module _ (lead g e : ℕ) (input : List ℕ) (fi : Bytes input) where
+  pub field-only : (f : Field) (b t m : ℕ) → scan lead g f (drop b input) ≡ Fine t m → b + t ≤ e
+      → Only g (take e input) input f (drop b input) t m b
+  unfolding flaw bytes scan fill view wide functype flag representation
+  field-only field.Nothing b t m s h =
+      let et : 0 ≡ t = cc in
+      only-words [] refl refl (cc) (omega arith) (λ more. refl) (λ more. ap (λ k. take k (drop b input)) et) (λ more. refl)
+  field-only (field.Fixed x) b t m s h =
+      let xs = drop b input in
+      let p = there-fine xs 0 _ t m s in
+      fixed (eqb (byte xs 0) x) refl (p .0) (p .1)
+    where
+      fixed : (k : Bool) → eqb (byte (drop b input) 0) x ≡ k → 0 < length (drop b input) → cond k (asked g lead 0 (Fine 1 0)) (Bad Code 0) ≡ Fine t m
+          → Only g (take e input) input (field.Fixed x) (drop b input) t m b
+      fixed true q i s =
+          let xs = drop b input in
+          let s′ = asked-fine g lead 0 (Fine 1 0) t m s in
+          let et : 1 ≡ t = cc in
+          only-words [] refl refl (cc) (omega arith) (λ more. refl)
+          (λ more. ap (λ n. n ∷ []) (sym (eqb-true _ _ q)) ∙ sym (front xs 0 i) ∙ ap (λ k. take k xs) et) (λ more. refl)
+      fixed false q i s = impossible cc
+  field-only field.Primitive b t m s h =
+      let xs = drop b input in
+      let p = there-fine xs 0 _ t m s in
+      let v = prime-seen g (byte xs 0) 1 t m (p .1) in
+      let et = v .took in
+      only-words (v .p ∷ []) (ap (λ n. n ∷ []) (v .reads)) refl (v .makes) (omega (arith, p .0)) (λ more. prime-judged more (v .right))
+      (λ more. ap (λ n. n ∷ []) (v .again) ∙ sym (front xs 0 (p .0)) ∙ ap (λ k. take k xs) (sym et)) (λ more. refl)
+  field-only field.Value b t m s h =
+      let v = value-seen g (drop b input) t m (bytes-behind input b fi) s in
+      only-words (v .a ∷ v .b ∷ []) (v .fills) refl (v .makes) (v .inside) (λ more. value-judged more (v .right)) (λ more. v .again) (λ more. refl)
+  field-only field.Optional b t m s h =
+      let v = optional-seen g (drop b input) t m (bytes-behind input b fi) s in
+      only-words (v .a ∷ v .b ∷ []) (v .fills) refl (v .makes) (v .inside) (λ more. optional-judged more (v .right)) (λ more. v .again) (λ more. refl)
+  field-only field.OptionalThenZero b t m s h =
+      let v = zero-seen g (drop b input) t m (bytes-behind input b fi) s in
+      only-words (v .a ∷ v .b ∷ []) (v .fills) refl (v .makes) (v .inside) (λ more. optional-judged more (v .right)) (λ more. v .again) (λ more. refl)
+  field-only field.Result b t m s h =
+      let v = result-seen g (drop b input) t m (bytes-behind input b fi) s in
+      only-words (v .a ∷ v .b ∷ []) (v .fills) refl (v .makes) (v .inside) (λ more. optional-judged more (v .right)) (λ more. v .again) (λ more. refl)
+  field-only field.Name b t m s h =
+      let xs = drop b input in
+      let fx = bytes-behind input b fi in
+      let r = name-found xs t m fx s in
+      let v = name-seen e input xs b refl fx 0 t m s (omega arith) in
+      only-words (v .start ∷ v .size ∷ []) (v .fills) refl (r .makes) (r .inside)
+      (λ more. name-judged (v .right) (v .start ∷ v .size ∷ more) 0 refl refl) (λ more. v .again) (λ more. ap (λ l. v .size ∷ l) (v .says))
+  field-only field.Index b t m s h =
+      let v = index-seen (drop b input) 1 t m (bytes-behind input b fi) s in
+      only-words (v .x ∷ []) (ap (λ n. n ∷ []) (v .reads)) refl (v .makes) (v .inside) (λ more. refl) (λ more. v .again) (λ more. refl)
+  field-only field.Async b t m s h =
+      let v = bit-seen g 2 0x40 0x43 (drop b input) t m s in
+      only-words (v .k ∷ []) (ap (λ n. n ∷ []) (v .reads)) refl (v .makes) (v .inside) (λ more. bit-judged more (v .right)) (λ more. v .again) (λ more. refl)
+  field-only field.Flag b t m s h =
+      let v = bit-seen g 1 0x00 0x01 (drop b input) t m s in
+      only-words (v .k ∷ []) (ap (λ n. n ∷ []) (v .reads)) refl (v .makes) (v .inside) (λ more. bit-judged more (v .right)) (λ more. v .again) (λ more. refl)
+  field-only field.Rep b t m s h =
+      let v = bit-seen g 1 0x7f 0x7e (drop b input) t m s in
+      only-words (v .k ∷ []) (ap (λ n. n ∷ []) (v .reads)) refl (v .makes) (v .inside) (λ more. bit-judged more (v .right)) (λ more. v .again) (λ more. refl)
+  field-only field.OptionalIndex b t m s h =
+      let v = present-seen g (drop b input) t m (bytes-behind input b fi) s in
+      only-words (v .a ∷ v .b ∷ []) (v .fills) refl (v .makes) (v .inside) (λ more. present-judged more (v .right)) (λ more. v .again) (λ more. refl)
+  field-only field.Choice b t m s h =
+      let v = choice-seen g (drop b input) t m (bytes-behind input b fi) s in
+      only-words (v .a ∷ v .b ∷ []) (v .fills) refl (v .makes) (v .inside) (λ more. choice-judged more (v .right)) (λ more. v .again) (λ more. refl)
+  field-only field.ExternName b t m s h = extern-only g e input b t m (bytes-behind input b fi) s h
+  field-only field.Reference b t m s h =
+      let v = reference-seen g (drop b input) t m (bytes-behind input b fi) s in
+      only-words (v .s ∷ v .x ∷ v .y ∷ []) (v .fills) refl (v .makes) (v .inside) (λ more. reference-judged more (v .right)) (λ more. v .again)
+      (λ more. refl)

@@ -1,0 +1,9 @@
+pub mod Back
+pub mod ExternBack
+pub mod ExternOnly
+pub mod FieldBack
+pub mod FieldOnly
+pub mod ItemLaws
+pub mod Only
+pub mod ReadLaws
+pub mod ScanOnly

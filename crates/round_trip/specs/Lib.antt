@@ -1,0 +1,3 @@
+pub mod Mark
+pub mod Returned
+pub mod inside

@@ -1,0 +1,156 @@
+-- The size of a field that is right is the length of its bytes, and small. A name that is right lies in the pool, so its length
+-- word is the number of its bytes and at most the pool's length; a number has at most five bytes.
+use Prim.Native.Nat.{ℕ, suc, _+_, _*_, _≤_}
+use native.Mathlib.Omega.{arith}
+use mathlib.Core.Path.{_≡_, refl}
+use mathlib.Core.Bool.{Bool, true, false, cond}
+use mathlib.Core.List.{List, [], _∷_}
+use lib.Dec.{eqb}
+use lib.ListN.{length, drop, length-append, length-drop}
+use lib.Seq.{length-take-le}
+use borrow.Author.Tests.{eqb-false}
+use Rattle.numbers.specs.Leb.{unsigned}
+use Rattle.numbers.proofs.LebLaws.{size-bounds}
+use Rattle.fields.specs.declared.Field.{Field}
+use Rattle.fields.specs.declared.Field.the-variants as field
+use Rattle.fields.specs.declared.Flaw.the-variants.{Right}
+use Rattle.fields.specs.Words.{word, indexed, wide}
+use Rattle.writing.specs.Binary.{name, valtype, optional, resultlist, destructor, canonopt, slotAt, slotsAt, slots, externname, typebound, externdesc, bytes}
+use Rattle.writing.specs.Judge.{named, optionalName, flaw}
+use Rattle.writing.specs.inside.Size.{valueSize, optionalSize, nameSize, slotSize, externSize, referenceSize, size}
+use Rattle.writing.proofs.FlawLaws.{name-inside, slot-inside, ExternRight, extern-right}
+
+-- ---- a choice of two: what is made of it, and its bound
+
+pick-of : (F : List ℕ → ℕ) (t : Bool) (a b : List ℕ) (m n : ℕ) → F a ≡ m → F b ≡ n → F (cond t a b) ≡ cond t m n
+pick-of F true a b m n h g = h
+pick-of F false a b m n h g = g
+
+pick-small : (t : Bool) (a b most : ℕ) → a ≤ most → b ≤ most → cond t a b ≤ most
+pick-small true a b most h g = h
+pick-small false a b most h g = g
+
+-- ---- the length of the bytes
+
+-- the bytes of a name that lies in the pool
+pub inside-length : (pool : List ℕ) (start n : ℕ) → start + n ≤ length pool → length (name pool start n) ≡ length (unsigned n) + n
+unfolding name
+inside-length pool start n h = rw (length-append, length-take-le n (drop start pool) (rw length-drop (omega arith)))
+
+name-length : (pool ws : List ℕ) → named pool ws 0 ≡ Right → length (name pool (word ws 0) (word ws 1)) ≡ nameSize ws 0
+name-length pool ws e = inside-length pool (word ws 0) (word ws 1) (name-inside pool ws 0 e)
+
+slot-length : (pool ws : List ℕ) (k i : ℕ) → optionalName pool ws i ≡ Right → length (slotAt pool ws k i) ≡ slotSize ws i
+unfolding slotAt
+slot-length pool ws k i e = go (eqb (word ws i) 0) refl
+  where
+    go : (t : Bool) → eqb (word ws i) 0 ≡ t
+        → length (cond t [] (k ∷ name pool (word ws (i + 1)) (word ws (i + 2)))) ≡ cond t 0 (1 + nameSize ws (i + 1))
+    go true q = refl
+    go false q =
+        let later : i + 1 + 1 ≡ i + 2 = omega arith in
+        rw later (omega (arith, inside-length pool (word ws (i + 1)) (word ws (i + 2)) (slot-inside pool ws i e (eqb-false _ _ q))))
+
+extern-length : (pool ws : List ℕ) → ExternRight pool ws → length (externname pool ws) ≡ externSize ws
+unfolding externname slotsAt
+extern-length pool ws r =
+    let itself = name-length pool ws (r .itself) in
+    let implements = slot-length pool ws 0 2 (r .implements) in
+    let suffix = slot-length pool ws 1 5 (r .suffix) in
+    let id = slot-length pool ws 2 8 (r .id) in
+    pick-of length (eqb (slots ws) 0) _ _ _ _ (omega arith) (simp length-append (omega arith))
+
+value-length : (ws : List ℕ) (i : ℕ) → length (valtype (word ws i) (word ws (i + 1))) ≡ valueSize ws i
+unfolding valtype
+value-length ws i = pick-of length (eqb (word ws i) 0) _ _ _ _ refl refl
+
+optional-length : (ws : List ℕ) → length (optional (word ws 0) (word ws 1)) ≡ optionalSize 1 ws 0
+unfolding optional
+optional-length ws = pick-of length (eqb (word ws 0) 2) _ _ _ _ refl (omega (arith, value-length ws 0))
+
+reference-length : (ws : List ℕ) → length (externdesc (word ws 0) (word ws 1) (word ws 2)) ≡ referenceSize ws
+unfolding externdesc typebound
+reference-length ws =
+    pick-of length (eqb (word ws 0) 0) _ _ _ _ (omega arith)
+    (pick-of length (eqb (word ws 0) 2) _ _ _ _ (omega (arith, value-length ws 1))
+    (pick-of length (eqb (word ws 0) 3) _ _ _ _ (pick-of (λ l. suc (length l)) (eqb (word ws 1) 0) _ _ _ _ (omega arith) refl) (omega arith)))
+
+pub size-right : (pool : List ℕ) (f : Field) (ws : List ℕ) → flaw pool f ws ≡ Right → length (bytes pool f ws) ≡ size f ws
+unfolding bytes size flaw resultlist destructor canonopt
+size-right pool field.Nothing ws e = refl
+size-right pool (field.Fixed b) ws e = refl
+size-right pool field.Primitive ws e = refl
+size-right pool field.Value ws e = value-length ws 0
+size-right pool field.Optional ws e = optional-length ws
+size-right pool field.OptionalThenZero ws e = simp length-append (omega (arith, optional-length ws))
+size-right pool field.Result ws e = pick-of length (eqb (word ws 0) 2) _ _ _ _ refl (omega (arith, value-length ws 0))
+size-right pool field.Name ws e = name-length pool ws e
+size-right pool field.Index ws e = refl
+size-right pool field.Async ws e = refl
+size-right pool field.Flag ws e = refl
+size-right pool field.Rep ws e = refl
+size-right pool field.OptionalIndex ws e = pick-of length (eqb (word ws 0) 0) _ _ _ _ refl (omega arith)
+size-right pool field.Choice ws e = pick-of (λ l. suc (length l)) (indexed (word ws 0)) _ _ _ _ (omega arith) refl
+size-right pool field.ExternName ws e = extern-length pool ws (extern-right pool ws e)
+size-right pool field.Reference ws e = reference-length ws
+
+-- ---- the bound
+
+value-small : (ws : List ℕ) (i : ℕ) → valueSize ws i ≤ 5
+value-small ws i = pick-small (eqb (word ws i) 0) _ _ _ (omega arith) (size-bounds 64 (word ws (i + 1)) .1)
+
+optional-small : (absent : ℕ) (ws : List ℕ) → absent ≤ 6 → optionalSize absent ws 0 ≤ 6
+optional-small absent ws h = pick-small (eqb (word ws 0) 2) _ _ _ h (omega (arith, value-small ws 0))
+
+reference-small : (ws : List ℕ) → referenceSize ws ≤ 7
+reference-small ws =
+    let one = size-bounds 128 (word ws 1) in
+    let two = size-bounds 128 (word ws 2) in
+    pick-small (eqb (word ws 0) 0) _ _ _ (omega arith)
+    (pick-small (eqb (word ws 0) 2) _ _ _ (omega (arith, value-small ws 1))
+    (pick-small (eqb (word ws 0) 3) _ _ _ (pick-small (eqb (word ws 1) 0) _ _ _ (omega arith) (omega arith)) (omega arith)))
+
+module _ (pool ws : List ℕ) (few : length pool ≤ 65536) where
+  name-small : named pool ws 0 ≡ Right → nameSize ws 0 ≤ 65541
+  name-small e = omega (arith, name-inside pool ws 0 e, size-bounds 128 (word ws 1))
+
+  slot-small : (i : ℕ) → optionalName pool ws i ≡ Right → slotSize ws i ≤ 65542
+  slot-small i e = go (eqb (word ws i) 0) refl
+    where
+      go : (t : Bool) → eqb (word ws i) 0 ≡ t → cond t 0 (1 + nameSize ws (i + 1)) ≤ 65542
+      go true q = omega arith
+      go false q =
+          let later : i + 1 + 1 ≡ i + 2 = omega arith in
+          rw later (omega (arith, slot-inside pool ws i e (eqb-false _ _ q), size-bounds 128 (word ws (i + 2))))
+
+  extern-small : ExternRight pool ws → externSize ws ≤ 262169
+  extern-small r =
+      let itself = name-small (r .itself) in
+      let implements = slot-small 2 (r .implements) in
+      let suffix = slot-small 5 (r .suffix) in
+      let id = slot-small 8 (r .id) in
+      pick-small (eqb (slots ws) 0) _ _ _ (omega arith) (omega arith)
+
+  size-bound : (f : Field) → flaw pool f ws ≡ Right → size f ws ≤ 1 + 32770 * wide f
+  unfolding size wide flaw
+  size-bound field.Nothing e = omega arith
+  size-bound (field.Fixed b) e = omega arith
+  size-bound field.Primitive e = omega arith
+  size-bound field.Value e = omega (arith, value-small ws 0)
+  size-bound field.Optional e = omega (arith, optional-small 1 ws (omega arith))
+  size-bound field.OptionalThenZero e = omega (arith, optional-small 1 ws (omega arith))
+  size-bound field.Result e = omega (arith, optional-small 2 ws (omega arith))
+  size-bound field.Name e = name-small e
+  size-bound field.Index e = omega (arith, size-bounds 128 (word ws 0))
+  size-bound field.Async e = omega arith
+  size-bound field.Flag e = omega arith
+  size-bound field.Rep e = omega arith
+  size-bound field.OptionalIndex e = pick-small (eqb (word ws 0) 0) _ _ _ (omega arith) (omega (arith, size-bounds 128 (word ws 1)))
+  size-bound field.Choice e = pick-small (indexed (word ws 0)) _ _ _ (omega (arith, size-bounds 128 (word ws 1))) (omega arith)
+  size-bound field.ExternName e = omega (arith, extern-small (extern-right pool ws e))
+  size-bound field.Reference e = omega (arith, reference-small ws)
+
+-- beside a pool of document 01's size: a name has two words, and at most its length in five bytes and 65,536 bytes
+pub field-bound : (pool : List ℕ) (f : Field) (ws : List ℕ) → length pool ≤ 65536 → flaw pool f ws ≡ Right
+    → length (bytes pool f ws) ≤ 1 + 32770 * wide f
+field-bound pool f ws h e = rw (size-right pool f ws e) (size-bound pool ws h f e)

@@ -1,0 +1,28 @@
+-- `writing::judge::is_bare` meets its contract: words that add up to 0 are all 0, and so no option is present (`options-absent`).
+use denote.Ref.{now}
+use borrow.Author.Needs.{needs}
+use Rattle.writing.proofs.FlawLaws.{options-absent}
+use Rattle.writing.proofs.judge.is_bare.Statement.{statement}
+use Rattle.writing.proofs.judge.is_bare.Tie as tie
+use Rattle.numbers.proofs.Impossible.{impossible}
+
+returns : tie.Need-returns
+returns c e = impossible cc
+
+returns-2 : tie.Need-returns-2
+returns-2 c e =
+    let third = c .before in
+    let a = third .before .before .before .before .before .before .args in
+    let one = third .before .before .three-at .ensures .0 in
+    let two = third .before .three-at2 .ensures .0 in
+    let three = third .three-at3 .ensures .0 in
+    options-absent (now (a .pool)) (now (a .ws)) _ _ _ one two three (c .if2 .taken)
+
+returns-3 : tie.Need-returns-3
+returns-3 c e = impossible cc
+
+pub is-bare-spec : {M : Type 1} → statement M
+is-bare-spec =
+    tie.close
+    (tie.spec returns (λ c κs. search needs) (λ c κs. search needs) (search needs) (λ c κs. search needs)
+    (search needs) returns-2 returns-3)
