@@ -55,18 +55,18 @@ behind most bs k h near = inside most near (simp length-drop (omega arith))
 -- ---- the parts that the definitions are made of
 
 module _ {n : ℕ} {M : ℕ → Type 0} where
-  pick-near : (b : Bool) {x y : Leaf} → Near n M x → Near n M y → Near n M (cond b x y)
-  pick-near true p q = p
-  pick-near false p q = q
+  cond-near : (b : Bool) {x y : Leaf} → Near n M x → Near n M y → Near n M (cond b x y)
+  cond-near true p q = p
+  cond-near false p q = q
 
   asked-near : (g k : ℕ) {l : Leaf} → Near n M l → Near n M (asked g k 0 l)
-  asked-near g k p = pick-near (ltb g k) (bad _ 0 (omega arith)) p
+  asked-near g k p = cond-near (ltb g k) (bad _ 0 (omega arith)) p
 
   primitive-near : (g b : ℕ) {l : Leaf} → Near n M l → Near n M (scanPrimitive g b l)
   unfolding scanPrimitive
   primitive-near g b p =
-      pick-near (eqb b 0x64) (asked-near g 2 p)
-      (pick-near (ltb b 0x73) (bad _ 0 (omega arith)) (pick-near (ltb b 0x80) p (bad _ 0 (omega arith))))
+      cond-near (eqb b 0x64) (asked-near g 2 p)
+      (cond-near (ltb b 0x73) (bad _ 0 (omega arith)) (cond-near (ltb b 0x80) p (bad _ 0 (omega arith))))
 
   onward-near : {N : ℕ → Type 0} {l : Leaf} {k : ℕ → ℕ → Leaf} → Near n M l → ((at left : ℕ) → at ≤ n → Near n N (k at left))
       → Near n N (onward l k)
@@ -93,12 +93,12 @@ module _ {M : ℕ → Type 0} (bs : List ℕ) where
   past-near k h (bad y j g) = bad y (k + j) (omega (arith, length-drop k bs))
 
   zero-near : (i : ℕ) {l : Leaf} → (i < length bs → Near (length bs) M l) → Near (length bs) M (zeroAt bs i l)
-  zero-near i f = there-near i (λ h. pick-near (eqb (byte bs i) 0) (f h) (bad _ i (omega arith)))
+  zero-near i f = there-near i (λ h. cond-near (eqb (byte bs i) 0) (f h) (bad _ i (omega arith)))
 
   either-near : (a b : ℕ) {l r : Leaf} → (0 < length bs → Near (length bs) M l) → (0 < length bs → Near (length bs) M r)
       → Near (length bs) M (either bs a l b r)
   either-near a b f g =
-      there-near 0 (λ h. pick-near (eqb (byte bs 0) a) (f h) (pick-near (eqb (byte bs 0) b) (g h) (bad _ 0 (omega arith))))
+      there-near 0 (λ h. cond-near (eqb (byte bs 0) a) (f h) (cond-near (eqb (byte bs 0) b) (g h) (bad _ 0 (omega arith))))
 
 -- ---- numbers, names and values
 
@@ -120,7 +120,7 @@ name-near bs = go (takeUnsigned bs) refl
   where
     fits : (n t : ℕ) → t ≤ length bs → (b : Bool) → leb (t + n) (length bs) ≡ b
         → Near (length bs) (Words 2) (cond b (cond (text (take n (drop t bs))) (Fine (t + n) 2) (Bad Text t)) (cut bs))
-    fits n t h true e = pick-near (text (take n (drop t bs))) (fine (t + n) 2 (leb-true (t + n) (length bs) e) refl) (bad _ t h)
+    fits n t h true e = cond-near (text (take n (drop t bs))) (fine (t + n) 2 (leb-true (t + n) (length bs) e) refl) (bad _ t h)
     fits n t h false e = cut-near bs
 
     go : (r : Taken) → takeUnsigned bs ≡ r → Near (length bs) (Words 2) (named bs r)
@@ -132,8 +132,8 @@ pub value-near : (g : ℕ) (bs : List ℕ) → Near (length bs) (Words 2) (scanV
 unfolding scanValue
 value-near g bs =
     there-near bs 0
-    (λ h. pick-near (ltb (byte bs 0) 0x40) (fine 1 2 h refl)
-    (pick-near (ltb (byte bs 0) 0x80) (primitive-near g (byte bs 0) (fine 1 2 h refl)) (number-near s33 2 bs)))
+    (λ h. cond-near (ltb (byte bs 0) 0x40) (fine 1 2 h refl)
+    (cond-near (ltb (byte bs 0) 0x80) (primitive-near g (byte bs 0) (fine 1 2 h refl)) (number-near s33 2 bs)))
 
 -- an index and a value behind k bytes
 index-behind : (w k : ℕ) (bs : List ℕ) → k ≤ length bs → Near (length bs) (Words w) (past k (scanIndex w (drop k bs)))
@@ -166,7 +166,7 @@ choice-near : (bs : List ℕ) → Near (length bs) (Words 2) (scanChoice bs)
 unfolding scanChoice
 choice-near bs =
     there-near bs 0
-    (λ h. pick-near (ltb (byte bs 0) 10) (pick-near (indexed (byte bs 0)) (index-behind 2 1 bs h) (fine 1 2 h refl)) (bad _ 0 (omega arith)))
+    (λ h. cond-near (ltb (byte bs 0) 10) (cond-near (indexed (byte bs 0)) (index-behind 2 1 bs h) (fine 1 2 h refl)) (bad _ 0 (omega arith)))
 
 -- ---- extern names: each step ends inside the input
 
@@ -179,20 +179,20 @@ count-near bs at h = go (takeUnsigned (drop at bs)) refl
   where
     go : (r : Taken) → takeUnsigned (drop at bs) ≡ r → Near (length bs) Any (counted (length bs) r at)
     go (taken.Value n t) e =
-        pick-near (eqb n 0) (bad _ at h)
-        (pick-near (ltb n 4) (fine (at + t) n (omega (arith, length-drop at bs, taken-inside u32 (drop at bs) n t e)) tt) (bad _ at h))
+        cond-near (eqb n 0) (bad _ at h)
+        (cond-near (ltb n 4) (fine (at + t) n (omega (arith, length-drop at bs, taken-inside u32 (drop at bs) n t e)) tt) (bad _ at h))
     go taken.Cut e = cut-near bs
     go taken.Bad e = bad _ at h
 
 slot-near : (k : ℕ) (bs : List ℕ) (at left : ℕ) → at ≤ length bs → Near (length bs) Any (slotScan k bs at left)
 unfolding slotScan
 slot-near k bs at left h =
-    pick-near (eqb left 0) (fine at 0 h tt)
-    (there-near bs at (λ g. pick-near (eqb (byte bs at) k) (string-near bs (at + 1) (left - 1) (omega arith)) (fine at left h tt)))
+    cond-near (eqb left 0) (fine at 0 h tt)
+    (there-near bs at (λ g. cond-near (eqb (byte bs at) k) (string-near bs (at + 1) (left - 1) (omega arith)) (fine at left h tt)))
 
 end-near : (bs : List ℕ) (at left : ℕ) → at ≤ length bs → Near (length bs) (Words 11) (endScan bs at left)
 unfolding endScan
-end-near bs at left h = pick-near (eqb left 0) (fine at 11 h refl) (there-near bs at (λ g. bad _ at h))
+end-near bs at left h = cond-near (eqb left 0) (fine at 11 h refl) (there-near bs at (λ g. bad _ at h))
 
 pub head-near : (g : ℕ) (bs : List ℕ) → Near (length bs) Any (headScan g bs)
 unfolding headScan
@@ -218,20 +218,20 @@ bound-near : (bs : List ℕ) → Near (length bs) (Words 3) (scanBound bs)
 unfolding scanBound
 bound-near bs =
     there-near bs 1
-    (λ h. pick-near (eqb (byte bs 1) 0) (index-behind 3 2 bs h) (pick-near (eqb (byte bs 1) 1) (fine 2 3 h refl) (bad _ 1 (omega arith))))
+    (λ h. cond-near (eqb (byte bs 1) 0) (index-behind 3 2 bs h) (cond-near (eqb (byte bs 1) 1) (fine 2 3 h refl) (bad _ 1 (omega arith))))
 
 module-near : (bs : List ℕ) → Near (length bs) (Words 3) (scanModule bs)
 unfolding scanModule
-module-near bs = there-near bs 1 (λ h. pick-near (eqb (byte bs 1) 0x11) (index-behind 3 2 bs h) (bad _ 1 (omega arith)))
+module-near bs = there-near bs 1 (λ h. cond-near (eqb (byte bs 1) 0x11) (index-behind 3 2 bs h) (bad _ 1 (omega arith)))
 
 reference-near : (g : ℕ) (bs : List ℕ) → Near (length bs) (Words 3) (scanReference g bs)
 unfolding scanReference
 reference-near g bs =
     there-near bs 0
-    (λ h. pick-near (eqb (byte bs 0) 0) (module-near bs)
-    (pick-near (eqb (byte bs 0) 2) (three-near (value-behind g 1 bs h))
-    (pick-near (eqb (byte bs 0) 3) (bound-near bs)
-    (pick-near (ltb (byte bs 0) 6) (index-behind 3 1 bs h) (bad _ 0 (omega arith))))))
+    (λ h. cond-near (eqb (byte bs 0) 0) (module-near bs)
+    (cond-near (eqb (byte bs 0) 2) (three-near (value-behind g 1 bs h))
+    (cond-near (eqb (byte bs 0) 3) (bound-near bs)
+    (cond-near (ltb (byte bs 0) 6) (index-behind 3 1 bs h) (bad _ 0 (omega arith))))))
 
 -- ---- each field
 
@@ -239,7 +239,7 @@ scan-near : (lead g : ℕ) (f : Field) (bs : List ℕ) → Near (length bs) (Wor
 unfolding scan wide
 scan-near lead g field.Nothing bs = fine 0 0 (omega arith) refl
 scan-near lead g (field.Fixed b) bs =
-    there-near bs 0 (λ h. pick-near (eqb (byte bs 0) b) (asked-near g lead (fine 1 0 h refl)) (bad _ 0 (omega arith)))
+    there-near bs 0 (λ h. cond-near (eqb (byte bs 0) b) (asked-near g lead (fine 1 0 h refl)) (bad _ 0 (omega arith)))
 scan-near lead g field.Primitive bs = there-near bs 0 (λ h. primitive-near g (byte bs 0) (fine 1 1 h refl))
 scan-near lead g field.Value bs = value-near g bs
 scan-near lead g field.Optional bs = optional-near g bs

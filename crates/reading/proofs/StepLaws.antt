@@ -104,30 +104,30 @@ data Some : Leaf → Type 0 where
   bad : (w : Refusal) (j : ℕ) → Some (Bad w j)
 
 -- any answer, behind a byte or more
-pick-some : (b : Bool) {x y : Leaf} → Some x → Some y → Some (cond b x y)
-pick-some true p q = p
-pick-some false p q = q
+cond-some : (b : Bool) {x y : Leaf} → Some x → Some y → Some (cond b x y)
+cond-some true p q = p
+cond-some false p q = q
 
 there-some : (bs : List ℕ) (i : ℕ) {l : Leaf} → Some l → Some (there bs i l)
-there-some bs i p = pick-some (leb (length bs) i) (bad _ _) p
+there-some bs i p = cond-some (leb (length bs) i) (bad _ _) p
 
 asked-some : (g n j : ℕ) {l : Leaf} → Some l → Some (asked g n j l)
-asked-some g n j p = pick-some (ltb g n) (bad _ _) p
+asked-some g n j p = cond-some (ltb g n) (bad _ _) p
 
 past-some : (k : ℕ) → 0 < k → (l : Leaf) → Some (past k l)
 past-some k h (Fine t m) = fine (k + t) m (omega arith)
 past-some k h (Bad w j) = bad w (k + j)
 
 zero-some : (bs : List ℕ) (i : ℕ) {l : Leaf} → Some l → Some (zeroAt bs i l)
-zero-some bs i p = there-some bs i (pick-some (eqb (byte bs i) 0) p (bad _ _))
+zero-some bs i p = there-some bs i (cond-some (eqb (byte bs i) 0) p (bad _ _))
 
 either-some : (bs : List ℕ) (a b : ℕ) {l r : Leaf} → Some l → Some r → Some (either bs a l b r)
-either-some bs a b p q = there-some bs 0 (pick-some (eqb (byte bs 0) a) p (pick-some (eqb (byte bs 0) b) q (bad _ _)))
+either-some bs a b p q = there-some bs 0 (cond-some (eqb (byte bs 0) a) p (cond-some (eqb (byte bs 0) b) q (bad _ _)))
 
 primitive-some : (g b : ℕ) {l : Leaf} → Some l → Some (scanPrimitive g b l)
 unfolding scanPrimitive
 primitive-some g b p =
-    pick-some (eqb b 0x64) (asked-some g 2 0 p) (pick-some (ltb b 0x73) (bad _ _) (pick-some (ltb b 0x80) p (bad _ _)))
+    cond-some (eqb b 0x64) (asked-some g 2 0 p) (cond-some (ltb b 0x73) (bad _ _) (cond-some (ltb b 0x80) p (bad _ _)))
 
 number-some : {end sign : ℕ} → Form end sign → (w : ℕ) (bs : List ℕ) → Some (numbered bs (takeIn end bs) w)
 number-some {end} form w bs = go (takeIn end bs) refl
@@ -148,7 +148,7 @@ name-some bs = go (takeUnsigned bs) refl
     go : (r : Taken) → takeUnsigned bs ≡ r → Some (named bs r)
     go (taken.Value n t) e =
         let h : 0 < t = taken-inside u32 bs n t e .0 in
-        pick-some (leb (t + n) (length bs)) (pick-some (text (take n (drop t bs))) (fine (t + n) 2 (omega arith)) (bad _ _)) (bad _ _)
+        cond-some (leb (t + n) (length bs)) (cond-some (text (take n (drop t bs))) (fine (t + n) 2 (omega arith)) (bad _ _)) (bad _ _)
     go taken.Cut e = bad _ _
     go taken.Bad e = bad _ _
 
@@ -156,8 +156,8 @@ value-some : (g : ℕ) (bs : List ℕ) → Some (scanValue g bs)
 unfolding scanValue
 value-some g bs =
     there-some bs 0
-    (pick-some (ltb (byte bs 0) 0x40) (fine 1 2 (omega arith))
-    (pick-some (ltb (byte bs 0) 0x80) (primitive-some g (byte bs 0) (fine 1 2 (omega arith))) (number-some s33 2 bs)))
+    (cond-some (ltb (byte bs 0) 0x40) (fine 1 2 (omega arith))
+    (cond-some (ltb (byte bs 0) 0x80) (primitive-some g (byte bs 0) (fine 1 2 (omega arith))) (number-some s33 2 bs)))
 
 optional-some : (g : ℕ) (bs : List ℕ) → Some (scanOptional g bs)
 unfolding scanOptional
@@ -184,8 +184,8 @@ choice-some : (bs : List ℕ) → Some (scanChoice bs)
 unfolding scanChoice
 choice-some bs =
     there-some bs 0
-    (pick-some (ltb (byte bs 0) 10)
-    (pick-some (indexed (byte bs 0)) (past-some 1 (omega arith) (scanIndex 2 (drop 1 bs))) (fine 1 2 (omega arith))) (bad _ _))
+    (cond-some (ltb (byte bs 0) 10)
+    (cond-some (indexed (byte bs 0)) (past-some 1 (omega arith) (scanIndex 2 (drop 1 bs))) (fine 1 2 (omega arith))) (bad _ _))
 
 -- extern names: each step hands on a place past the first byte
 onward-some : {l : Leaf} {k : ℕ → ℕ → Leaf} → Some l → ((at left : ℕ) → 0 < at → Some (k at left)) → Some (onward l k)
@@ -200,19 +200,19 @@ unfolding countAt
 count-some bs at h = go (takeUnsigned (drop at bs))
   where
     go : (r : Taken) → Some (counted (length bs) r at)
-    go (taken.Value n t) = pick-some (eqb n 0) (bad _ _) (pick-some (ltb n 4) (fine (at + t) n (omega arith)) (bad _ _))
+    go (taken.Value n t) = cond-some (eqb n 0) (bad _ _) (cond-some (ltb n 4) (fine (at + t) n (omega arith)) (bad _ _))
     go taken.Cut = bad _ _
     go taken.Bad = bad _ _
 
 slot-some : (k : ℕ) (bs : List ℕ) (at left : ℕ) → 0 < at → Some (slotScan k bs at left)
 unfolding slotScan
 slot-some k bs at left h =
-    pick-some (eqb left 0) (fine at 0 h)
-    (there-some bs at (pick-some (eqb (byte bs at) k) (string-some bs (at + 1) (left - 1) (omega arith)) (fine at left h)))
+    cond-some (eqb left 0) (fine at 0 h)
+    (there-some bs at (cond-some (eqb (byte bs at) k) (string-some bs (at + 1) (left - 1) (omega arith)) (fine at left h)))
 
 last-some : (bs : List ℕ) (at left : ℕ) → 0 < at → Some (endScan bs at left)
 unfolding endScan
-last-some bs at left h = pick-some (eqb left 0) (fine at 11 h) (there-some bs at (bad _ _))
+last-some bs at left h = cond-some (eqb left 0) (fine at 11 h) (there-some bs at (bad _ _))
 
 extern-some : (g : ℕ) (bs : List ℕ) → Some (scanExtern g bs)
 unfolding scanExtern secondScan firstScan headScan
@@ -231,19 +231,19 @@ reference-some : (g : ℕ) (bs : List ℕ) → Some (scanReference g bs)
 unfolding scanReference scanModule scanBound
 reference-some g bs =
     there-some bs 0
-    (pick-some (eqb (byte bs 0) 0)
-    (there-some bs 1 (pick-some (eqb (byte bs 1) 0x11) (past-some 2 (omega arith) (scanIndex 3 (drop 2 bs))) (bad _ _)))
-    (pick-some (eqb (byte bs 0) 2) (three-some (past-some 1 (omega arith) (scanValue g (drop 1 bs))))
-    (pick-some (eqb (byte bs 0) 3)
+    (cond-some (eqb (byte bs 0) 0)
+    (there-some bs 1 (cond-some (eqb (byte bs 1) 0x11) (past-some 2 (omega arith) (scanIndex 3 (drop 2 bs))) (bad _ _)))
+    (cond-some (eqb (byte bs 0) 2) (three-some (past-some 1 (omega arith) (scanValue g (drop 1 bs))))
+    (cond-some (eqb (byte bs 0) 3)
     (there-some bs 1
-    (pick-some (eqb (byte bs 1) 0) (past-some 2 (omega arith) (scanIndex 3 (drop 2 bs)))
-    (pick-some (eqb (byte bs 1) 1) (fine 2 3 (omega arith)) (bad _ _))))
-    (pick-some (ltb (byte bs 0) 6) (past-some 1 (omega arith) (scanIndex 3 (drop 1 bs))) (bad _ _)))))
+    (cond-some (eqb (byte bs 1) 0) (past-some 2 (omega arith) (scanIndex 3 (drop 2 bs)))
+    (cond-some (eqb (byte bs 1) 1) (fine 2 3 (omega arith)) (bad _ _))))
+    (cond-some (ltb (byte bs 0) 6) (past-some 1 (omega arith) (scanIndex 3 (drop 1 bs))) (bad _ _)))))
 
 scan-some : (g : ℕ) (f : Field) (bs : List ℕ) → Taking f → Some (scan 1 g f bs)
 unfolding scan
 scan-some g field.Nothing bs h = absurd h
-scan-some g (field.Fixed b) bs h = there-some bs 0 (pick-some (eqb (byte bs 0) b) (asked-some g 1 0 (fine 1 0 (omega arith))) (bad _ _))
+scan-some g (field.Fixed b) bs h = there-some bs 0 (cond-some (eqb (byte bs 0) b) (asked-some g 1 0 (fine 1 0 (omega arith))) (bad _ _))
 scan-some g field.Primitive bs h = there-some bs 0 (primitive-some g (byte bs 0) (fine 1 1 (omega arith)))
 scan-some g field.Value bs h = value-some g bs
 scan-some g field.Optional bs h = optional-some g bs

@@ -141,9 +141,9 @@ data Few : Leaf → Type 0 where
   fine : (t m : ℕ) → 0 < t → t ≤ 5 → Few (Fine t m)
   bad : (w : Refusal) (j : ℕ) → Few (Bad w j)
 
-pick-few : (b : Bool) {l r : Leaf} → Few l → Few r → Few (cond b l r)
-pick-few true l r = l
-pick-few false l r = r
+cond-few : (b : Bool) {l r : Leaf} → Few l → Few r → Few (cond b l r)
+cond-few true l r = l
+cond-few false l r = r
 
 number-few : (bs : List ℕ) → Few (numbered bs (takeSigned bs) 2)
 number-few bs = go (takeSigned bs) refl
@@ -159,10 +159,10 @@ value-few g bs =
     let b = byte bs 0 in
     let byte-few : Few (Fine 1 2) = fine 1 2 (omega arith) (omega arith) in
     let other : Few (cond (ltb b 0x73) (Bad Code 0) (cond (ltb b 0x80) (Fine 1 2) (Bad Code 0))) =
-    pick-few (ltb b 0x73) (bad _ _) (pick-few (ltb b 0x80) byte-few (bad _ _)) in
-    pick-few (leb (length bs) 0) (bad _ _)
-    (pick-few (ltb b 0x40) byte-few
-    (pick-few (ltb b 0x80) (pick-few (eqb b 0x64) (pick-few (ltb g 2) (bad _ _) byte-few) other) (number-few bs)))
+    cond-few (ltb b 0x73) (bad _ _) (cond-few (ltb b 0x80) byte-few (bad _ _)) in
+    cond-few (leb (length bs) 0) (bad _ _)
+    (cond-few (ltb b 0x40) byte-few
+    (cond-few (ltb b 0x80) (cond-few (eqb b 0x64) (cond-few (ltb g 2) (bad _ _) byte-few) other) (number-few bs)))
 
 few-took : {l : Leaf} → Few l → (ws : List ℕ) → pairOf l ws .took ≤ 5
 unfolding pairOf

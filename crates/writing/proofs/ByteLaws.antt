@@ -49,13 +49,13 @@ take-bytes zero f = none
 take-bytes (suc k) none = none
 take-bytes (suc k) (some h f) = some h (take-bytes k f)
 
-pick-bytes : (t : Bool) {a b : List ℕ} → ByteList a → ByteList b → ByteList (cond t a b)
-pick-bytes true f g = f
-pick-bytes false f g = g
+cond-bytes : (t : Bool) {a b : List ℕ} → ByteList a → ByteList b → ByteList (cond t a b)
+cond-bytes true f g = f
+cond-bytes false f g = g
 
-pick-byte : (t : Bool) {a b : ℕ} → a < 2 ^ 8 → b < 2 ^ 8 → cond t a b < 2 ^ 8
-pick-byte true f g = f
-pick-byte false f g = g
+cond-byte : (t : Bool) {a b : ℕ} → a < 2 ^ 8 → b < 2 ^ 8 → cond t a b < 2 ^ 8
+cond-byte true f g = f
+cond-byte false f g = g
 
 -- ---- words of 32 bits
 
@@ -99,25 +99,25 @@ module _ (pool : List ℕ) (fp : ByteList pool) (ws : List ℕ) (fw : Words ws) 
 
   prim-byte : (p : ℕ) → primvaltype p < 2 ^ 8
   unfolding primvaltype
-  prim-byte p = pick-byte (eqb p 13) (omega arith) (omega arith)
+  prim-byte p = cond-byte (eqb p 13) (omega arith) (omega arith)
 
   value-bytes : (i j : ℕ) → ByteList (valtype (word ws i) (word ws j))
   unfolding valtype
   value-bytes i j =
-      pick-bytes (eqb (word ws i) 0) (some (prim-byte (word ws j)) none) (of-bytes (signed (word ws j)) (put-bytes s33 (word ws j) (fw j)))
+      cond-bytes (eqb (word ws i) 0) (some (prim-byte (word ws j)) none) (of-bytes (signed (word ws j)) (put-bytes s33 (word ws j) (fw j)))
 
   optional-bytes : (i j : ℕ) → ByteList (optional (word ws i) (word ws j))
   unfolding optional
-  optional-bytes i j = pick-bytes (eqb (word ws i) 2) (some (omega arith) none) (some (omega arith) (value-bytes i j))
+  optional-bytes i j = cond-bytes (eqb (word ws i) 2) (some (omega arith) none) (some (omega arith) (value-bytes i j))
 
   slot-bytes : (k i : ℕ) → k < 2 ^ 8 → ByteList (slotAt pool ws k i)
   unfolding slotAt
-  slot-bytes k i h = pick-bytes (eqb (word ws i) 0) none (some h (name-bytes (i + 1) (i + 2)))
+  slot-bytes k i h = cond-bytes (eqb (word ws i) 0) none (some h (name-bytes (i + 1) (i + 2)))
 
   extern-bytes : ByteList (externname pool ws)
   unfolding externname slotsAt slots
   extern-bytes =
-      pick-bytes (eqb (slots ws) 0) (some (omega arith) (name-bytes 0 1))
+      cond-bytes (eqb (slots ws) 0) (some (omega arith) (name-bytes 0 1))
       (append-bytes (some (omega arith) (name-bytes 0 1))
       (some (omega (arith, flag-small (word ws 2), flag-small (word ws 5), flag-small (word ws 8)))
       (append-bytes (slot-bytes 0x00 2 (omega arith)) (append-bytes (slot-bytes 0x01 5 (omega arith)) (slot-bytes 0x02 8 (omega arith))))))
@@ -125,10 +125,10 @@ module _ (pool : List ℕ) (fp : ByteList pool) (ws : List ℕ) (fw : Words ws) 
   reference-bytes : word ws 0 < 6 → ByteList (externdesc (word ws 0) (word ws 1) (word ws 2))
   unfolding externdesc typebound
   reference-bytes h =
-      pick-bytes (eqb (word ws 0) 0) (some (omega arith) (some (omega arith) (index-bytes 1)))
-      (pick-bytes (eqb (word ws 0) 2) (some (omega arith) (value-bytes 1 2))
-      (pick-bytes (eqb (word ws 0) 3)
-      (some (omega arith) (pick-bytes (eqb (word ws 1) 0) (some (omega arith) (index-bytes 2)) (some (omega arith) none)))
+      cond-bytes (eqb (word ws 0) 0) (some (omega arith) (some (omega arith) (index-bytes 1)))
+      (cond-bytes (eqb (word ws 0) 2) (some (omega arith) (value-bytes 1 2))
+      (cond-bytes (eqb (word ws 0) 3)
+      (some (omega arith) (cond-bytes (eqb (word ws 1) 0) (some (omega arith) (index-bytes 2)) (some (omega arith) none)))
       (some (omega arith) (index-bytes 1))))
 
   pub field-bytes : (f : Field) → Byte f → flaw pool f ws ≡ Right → ByteList (bytes pool f ws)
@@ -140,14 +140,14 @@ module _ (pool : List ℕ) (fp : ByteList pool) (ws : List ℕ) (fw : Words ws) 
   field-bytes field.Optional b e = optional-bytes 0 1
   field-bytes field.OptionalThenZero b e = append-bytes (optional-bytes 0 1) (some (omega arith) none)
   field-bytes field.Result b e =
-      pick-bytes (eqb (word ws 0) 2) (some (omega arith) (some (omega arith) none)) (some (omega arith) (value-bytes 0 1))
+      cond-bytes (eqb (word ws 0) 2) (some (omega arith) (some (omega arith) none)) (some (omega arith) (value-bytes 0 1))
   field-bytes field.Name b e = name-bytes 0 1
   field-bytes field.Index b e = index-bytes 0
-  field-bytes field.Async b e = some (pick-byte (eqb (word ws 0) 0) {a = 0x40} {b = 0x43} (omega arith) (omega arith)) none
-  field-bytes field.Flag b e = some (pick-byte (eqb (word ws 0) 0) {a = 0x00} {b = 0x01} (omega arith) (omega arith)) none
-  field-bytes field.Rep b e = some (pick-byte (eqb (word ws 0) 0) {a = 0x7f} {b = 0x7e} (omega arith) (omega arith)) none
-  field-bytes field.OptionalIndex b e = pick-bytes (eqb (word ws 0) 0) (some (omega arith) none) (some (omega arith) (index-bytes 1))
+  field-bytes field.Async b e = some (cond-byte (eqb (word ws 0) 0) {a = 0x40} {b = 0x43} (omega arith) (omega arith)) none
+  field-bytes field.Flag b e = some (cond-byte (eqb (word ws 0) 0) {a = 0x00} {b = 0x01} (omega arith) (omega arith)) none
+  field-bytes field.Rep b e = some (cond-byte (eqb (word ws 0) 0) {a = 0x7f} {b = 0x7e} (omega arith) (omega arith)) none
+  field-bytes field.OptionalIndex b e = cond-bytes (eqb (word ws 0) 0) (some (omega arith) none) (some (omega arith) (index-bytes 1))
   field-bytes field.Choice b e =
-      some {b = word ws 0} (omega (arith, choice-below ws e)) (pick-bytes (indexed (word ws 0)) (index-bytes 1) none)
+      some {b = word ws 0} (omega (arith, choice-below ws e)) (cond-bytes (indexed (word ws 0)) (index-bytes 1) none)
   field-bytes field.ExternName b e = extern-bytes
   field-bytes field.Reference b e = reference-bytes (reference-below ws e)

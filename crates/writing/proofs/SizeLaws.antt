@@ -22,13 +22,13 @@ use Rattle.writing.proofs.FlawLaws.{name-inside, slot-inside, ExternRig
 
 -- ---- a choice of two: what is made of it, and its bound
 
-pick-of : (F : List ℕ → ℕ) (t : Bool) (a b : List ℕ) (m n : ℕ) → F a ≡ m → F b ≡ n → F (cond t a b) ≡ cond t m n
-pick-of F true a b m n h g = h
-pick-of F false a b m n h g = g
+cond-of : (F : List ℕ → ℕ) (t : Bool) (a b : List ℕ) (m n : ℕ) → F a ≡ m → F b ≡ n → F (cond t a b) ≡ cond t m n
+cond-of F true a b m n h g = h
+cond-of F false a b m n h g = g
 
-pick-small : (t : Bool) (a b most : ℕ) → a ≤ most → b ≤ most → cond t a b ≤ most
-pick-small true a b most h g = h
-pick-small false a b most h g = g
+cond-small : (t : Bool) (a b most : ℕ) → a ≤ most → b ≤ most → cond t a b ≤ most
+cond-small true a b most h g = h
+cond-small false a b most h g = g
 
 -- ---- the length of the bytes
 
@@ -58,22 +58,22 @@ extern-length pool ws r =
     let implements = slot-length pool ws 0 2 (r .implements) in
     let suffix = slot-length pool ws 1 5 (r .suffix) in
     let id = slot-length pool ws 2 8 (r .id) in
-    pick-of length (eqb (slots ws) 0) _ _ _ _ (omega arith) (simp length-append (omega arith))
+    cond-of length (eqb (slots ws) 0) _ _ _ _ (omega arith) (simp length-append (omega arith))
 
 value-length : (ws : List ℕ) (i : ℕ) → length (valtype (word ws i) (word ws (i + 1))) ≡ valueSize ws i
 unfolding valtype
-value-length ws i = pick-of length (eqb (word ws i) 0) _ _ _ _ refl refl
+value-length ws i = cond-of length (eqb (word ws i) 0) _ _ _ _ refl refl
 
 optional-length : (ws : List ℕ) → length (optional (word ws 0) (word ws 1)) ≡ optionalSize 1 ws 0
 unfolding optional
-optional-length ws = pick-of length (eqb (word ws 0) 2) _ _ _ _ refl (omega (arith, value-length ws 0))
+optional-length ws = cond-of length (eqb (word ws 0) 2) _ _ _ _ refl (omega (arith, value-length ws 0))
 
 reference-length : (ws : List ℕ) → length (externdesc (word ws 0) (word ws 1) (word ws 2)) ≡ referenceSize ws
 unfolding externdesc typebound
 reference-length ws =
-    pick-of length (eqb (word ws 0) 0) _ _ _ _ (omega arith)
-    (pick-of length (eqb (word ws 0) 2) _ _ _ _ (omega (arith, value-length ws 1))
-    (pick-of length (eqb (word ws 0) 3) _ _ _ _ (pick-of (λ l. suc (length l)) (eqb (word ws 1) 0) _ _ _ _ (omega arith) refl) (omega arith)))
+    cond-of length (eqb (word ws 0) 0) _ _ _ _ (omega arith)
+    (cond-of length (eqb (word ws 0) 2) _ _ _ _ (omega (arith, value-length ws 1))
+    (cond-of length (eqb (word ws 0) 3) _ _ _ _ (cond-of (λ l. suc (length l)) (eqb (word ws 1) 0) _ _ _ _ (omega arith) refl) (omega arith)))
 
 pub size-right : (pool : List ℕ) (f : Field) (ws : List ℕ) → flaw pool f ws ≡ Right → length (bytes pool f ws) ≡ size f ws
 unfolding bytes size flaw resultlist destructor canonopt
@@ -83,32 +83,32 @@ size-right pool field.Primitive ws e = refl
 size-right pool field.Value ws e = value-length ws 0
 size-right pool field.Optional ws e = optional-length ws
 size-right pool field.OptionalThenZero ws e = simp length-append (omega (arith, optional-length ws))
-size-right pool field.Result ws e = pick-of length (eqb (word ws 0) 2) _ _ _ _ refl (omega (arith, value-length ws 0))
+size-right pool field.Result ws e = cond-of length (eqb (word ws 0) 2) _ _ _ _ refl (omega (arith, value-length ws 0))
 size-right pool field.Name ws e = name-length pool ws e
 size-right pool field.Index ws e = refl
 size-right pool field.Async ws e = refl
 size-right pool field.Flag ws e = refl
 size-right pool field.Rep ws e = refl
-size-right pool field.OptionalIndex ws e = pick-of length (eqb (word ws 0) 0) _ _ _ _ refl (omega arith)
-size-right pool field.Choice ws e = pick-of (λ l. suc (length l)) (indexed (word ws 0)) _ _ _ _ (omega arith) refl
+size-right pool field.OptionalIndex ws e = cond-of length (eqb (word ws 0) 0) _ _ _ _ refl (omega arith)
+size-right pool field.Choice ws e = cond-of (λ l. suc (length l)) (indexed (word ws 0)) _ _ _ _ (omega arith) refl
 size-right pool field.ExternName ws e = extern-length pool ws (extern-right pool ws e)
 size-right pool field.Reference ws e = reference-length ws
 
 -- ---- the bound
 
 value-small : (ws : List ℕ) (i : ℕ) → valueSize ws i ≤ 5
-value-small ws i = pick-small (eqb (word ws i) 0) _ _ _ (omega arith) (size-bounds 64 (word ws (i + 1)) .1)
+value-small ws i = cond-small (eqb (word ws i) 0) _ _ _ (omega arith) (size-bounds 64 (word ws (i + 1)) .1)
 
 optional-small : (absent : ℕ) (ws : List ℕ) → absent ≤ 6 → optionalSize absent ws 0 ≤ 6
-optional-small absent ws h = pick-small (eqb (word ws 0) 2) _ _ _ h (omega (arith, value-small ws 0))
+optional-small absent ws h = cond-small (eqb (word ws 0) 2) _ _ _ h (omega (arith, value-small ws 0))
 
 reference-small : (ws : List ℕ) → referenceSize ws ≤ 7
 reference-small ws =
     let one = size-bounds 128 (word ws 1) in
     let two = size-bounds 128 (word ws 2) in
-    pick-small (eqb (word ws 0) 0) _ _ _ (omega arith)
-    (pick-small (eqb (word ws 0) 2) _ _ _ (omega (arith, value-small ws 1))
-    (pick-small (eqb (word ws 0) 3) _ _ _ (pick-small (eqb (word ws 1) 0) _ _ _ (omega arith) (omega arith)) (omega arith)))
+    cond-small (eqb (word ws 0) 0) _ _ _ (omega arith)
+    (cond-small (eqb (word ws 0) 2) _ _ _ (omega (arith, value-small ws 1))
+    (cond-small (eqb (word ws 0) 3) _ _ _ (cond-small (eqb (word ws 1) 0) _ _ _ (omega arith) (omega arith)) (omega arith)))
 
 module _ (pool ws : List ℕ) (few : length pool ≤ 65536) where
   name-small : named pool ws 0 ≡ Right → nameSize ws 0 ≤ 65541
@@ -129,7 +129,7 @@ module _ (pool ws : List ℕ) (few : length pool ≤ 65536) where
       let implements = slot-small 2 (r .implements) in
       let suffix = slot-small 5 (r .suffix) in
       let id = slot-small 8 (r .id) in
-      pick-small (eqb (slots ws) 0) _ _ _ (omega arith) (omega arith)
+      cond-small (eqb (slots ws) 0) _ _ _ (omega arith) (omega arith)
 
   size-bound : (f : Field) → flaw pool f ws ≡ Right → size f ws ≤ 1 + 32770 * wide f
   unfolding size wide flaw
@@ -145,8 +145,8 @@ module _ (pool ws : List ℕ) (few : length pool ≤ 65536) where
   size-bound field.Async e = omega arith
   size-bound field.Flag e = omega arith
   size-bound field.Rep e = omega arith
-  size-bound field.OptionalIndex e = pick-small (eqb (word ws 0) 0) _ _ _ (omega arith) (omega (arith, size-bounds 128 (word ws 1)))
-  size-bound field.Choice e = pick-small (indexed (word ws 0)) _ _ _ (omega (arith, size-bounds 128 (word ws 1))) (omega arith)
+  size-bound field.OptionalIndex e = cond-small (eqb (word ws 0) 0) _ _ _ (omega arith) (omega (arith, size-bounds 128 (word ws 1)))
+  size-bound field.Choice e = cond-small (indexed (word ws 0)) _ _ _ (omega (arith, size-bounds 128 (word ws 1))) (omega arith)
   size-bound field.ExternName e = omega (arith, extern-small (extern-right pool ws e))
   size-bound field.Reference e = omega (arith, reference-small ws)
 
