@@ -76,13 +76,26 @@ obtain_crates() {
   echo "crates:  $(cat "$obtained/which")"
 }
 
+# The peers' wasm-tools on the loader and the libc that came with it, whatever the processor: its own command names x86-64's.
+peers_wasm_tools() {
+  local root=$obtained/peers/root loader
+  loader=$(find "$root/usr/lib" -type f -name 'ld-linux-*.so.*' 2>/dev/null | head -n 1)
+  [ -n "$loader" ] && [ -x "$root/usr/bin/wasm-tools" ] || return 1
+  cat >"$obtained/wasm-tools" <<COMMAND
+#!/bin/sh
+exec "$loader" --library-path "$(dirname "$loader")" "$root/usr/bin/wasm-tools" "\$@"
+COMMAND
+  chmod +x "$obtained/wasm-tools"
+  "$obtained/wasm-tools" --version >/dev/null 2>&1
+}
+
 # A wasm-tools: the peers' one, got now where the registry served; else the one on the PATH; else none.
 find_wasm_tools() {
-  local tools=$obtained/peers/wasm-tools
-  if [ ! -x "$tools" ] && [ -x "$oracle/peers" ]; then
+  local tools=$obtained/wasm-tools
+  if [ ! -d "$obtained/peers/root" ] && [ -x "$oracle/peers" ]; then
     quietly peers "$oracle/peers" "$obtained/peers" || true
   fi
-  [ -x "$tools" ] || tools=$(command -v wasm-tools || true)
+  peers_wasm_tools || tools=$(command -v wasm-tools || true)
   if [ -n "$tools" ]; then
     export TBAUNARITH_WASM_TOOLS=$tools
     echo "tools:   $("$tools" --version)"

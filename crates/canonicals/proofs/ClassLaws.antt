@@ -180,57 +180,57 @@ unfolding Choices Rights repeated flaw wide
 rights-choices pool zero ws h = tt
 rights-choices pool (suc n) ws h = (h .0, rights-choices pool n (drop 2 ws) (h .1 .1))
 
--- `left` options are still to be seen
+-- `due` options are still to be seen
 abbrev pub Going : List ℕ → ℕ → ℕ → ℕ → ℕ → ℕ → ℕ → Type 0
-Going row from n base left at made = group.Going [] one element 6 row from n base left at made
+Going row from n base due at made = group.Going [] one element 6 row from n base due at made
 
-module _ {row : List ℕ} {from n base left at made : ℕ} (g : Going row from n base left at made) where
-  pub going-place : at + left * 2 ≡ from + n * 2
+module _ {row : List ℕ} {from n base due at made : ℕ} (g : Going row from n base due at made) where
+  pub going-place : at + due * 2 ≡ from + n * 2
   unfolding widths wide
   going-place = g .place
 
-  pub going-next : 0 < left → choice (word row at ∷ word row (at + 1) ∷ []) ≡ Right
-      → {r : ℕ} → r ≡ length (canonopt (word row at) (word row (at + 1))) → r ≤ 6 → Going row from n base (left - 1) (at + 2) (made + r)
+  pub going-next : 0 < due → choice (word row at ∷ word row (at + 1) ∷ []) ≡ Right
+      → {r : ℕ} → r ≡ length (canonopt (word row at) (word row (at + 1))) → r ≤ 6 → Going row from n base (due - 1) (at + 2) (made + r)
   unfolding Rights flaw widths wide
   going-next h e s b = group.going-next g h (choice-at row at e, (refl, tt)) (s ∙ ap length (canonopt-at row at)) b refl
 
-  pub going-end : left ≤ 0 → Chosen n (drop from row) base made
+  pub going-end : due ≤ 0 → Chosen n (drop from row) base made
   unfolding widths wide
-  going-end h = let k = group.going-end left g h in record { right = rights-choices [] n (drop from row) (k .right); size = k .size }
+  going-end h = let k = group.going-end due g h in record { right = rights-choices [] n (drop from row) (k .right); size = k .size }
 
 -- and so the row
 pub optioned-known : (row : List ℕ) (head : ℕ) {a b r : ℕ} → length row ≤ 16384 → length row ≡ 3 + word row 2 * 2 → a ≡ length (unsigned (word row 1))
     → b ≡ length (unsigned (word row 2)) → Chosen (word row 2) (drop 3 row) (head + a + b) r → Optioned row × (r ≡ head + optionedSize row)
 optioned-known row head short width ea eb c = (record { short = short; width = width; right = c .right }, omega (arith, c .size))
 
--- `left` options are still to be put
+-- `due` options are still to be put
 abbrev pub Putting : List ℕ → ℕ → ℕ → List ℕ → ℕ → ℕ → ℕ → ℕ → List ℕ → Type 0
-Putting row from n old base left at to new = group.Putting [] one element row from n old base left at to new
+Putting row from n old base due at to new = group.Putting [] one element row from n old base due at to new
 
 pub putting-start : (row : List ℕ) (from n : ℕ) (old : List ℕ) (base : ℕ) → Choices n (drop from row) → Putting row from n old base n from base old
 putting-start row from n old base h = group.putting-start [] one element row from n old base (choices-rights [] n (drop from row) h)
 
-module _ {row : List ℕ} {from n : ℕ} {old : List ℕ} {base left at to : ℕ} {new : List ℕ} (p : Putting row from n old base left at to new) where
-  pub putting-place : at + left * 2 ≡ from + n * 2
+module _ {row : List ℕ} {from n : ℕ} {old : List ℕ} {base due at to : ℕ} {new : List ℕ} (p : Putting row from n old base due at to new) where
+  pub putting-place : at + due * 2 ≡ from + n * 2
   unfolding widths wide
   putting-place = p .place
 
   -- the next option is right, and has room
-  pub putting-turn : 0 < left → base + length (choices n (drop from row)) ≤ length old
+  pub putting-round : 0 < due → base + length (choices n (drop from row)) ≤ length old
       → (word row at < 10) × (to + length (canonopt (word row at) (word row (at + 1))) ≤ length new)
   unfolding Rights flaw widths wide
-  putting-turn h b =
-      let t = group.putting-turn left p h b in
+  putting-round h b =
+      let t = group.putting-round due p h b in
       (omega (arith, choice-below (drop at row) (t .0 .0), first-word row at), omega (arith, t .1, ap length (canonopt-at row at)))
 
-  pub putting-next : 0 < left → {next : ℕ} {more : List ℕ} → Wrote new to (canonopt (word row at) (word row (at + 1))) next more
-      → Putting row from n old base (left - 1) (at + 2) next more
+  pub putting-next : 0 < due → {next : ℕ} {more : List ℕ} → Wrote new to (canonopt (word row at) (word row (at + 1))) next more
+      → Putting row from n old base (due - 1) (at + 2) next more
   unfolding widths wide
   putting-next h {next} {more} w = group.putting-next p h (subst (λ l. Wrote new to l next more) (canonopt-at row at) w) refl
 
-  pub putting-end : left ≤ 0 → Wrote old base (choices n (drop from row)) to new
+  pub putting-end : due ≤ 0 → Wrote old base (choices n (drop from row)) to new
   unfolding widths wide
-  putting-end h = group.putting-end left p h
+  putting-end h = group.putting-end due p h
 
 -- ---- a row that is right has its size
 

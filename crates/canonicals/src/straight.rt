@@ -305,15 +305,15 @@ fn options_size(row: &[u32], from: usize, n: usize, base: usize) -> usize
 {
     let mut at = from;
     let mut made = base;
-    let mut left = n;
-    while 0 < left {
+    let mut due = n;
+    while 0 < due {
         let one = option_size(row[at], row[at + 1]);
         if one == 0 {
             return 0;
         }
         made += one;
         at += 2;
-        left -= 1;
+        due -= 1;
     }
     made
 }
@@ -324,11 +324,11 @@ fn put_options(row: &[u32], from: usize, n: usize, out: &mut [u8], base: usize) 
 {
     let mut at = from;
     let mut to = base;
-    let mut left = n;
-    while 0 < left {
+    let mut due = n;
+    while 0 < due {
         to = put_option(row[at], row[at + 1], out, to);
         at += 2;
-        left -= 1;
+        due -= 1;
     }
     to
 }

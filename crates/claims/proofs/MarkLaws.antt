@@ -254,21 +254,21 @@ module _ (family lead g : ℕ) (any : 1 ≤ g) where
       bs : List ℕ
       bs = bytes pool f ws
 
-      left : ℕ → List ℕ
-      left t = outs (writer pool) p (at + t) (drop t ws)
+      due : ℕ → List ℕ
+      due t = outs (writer pool) p (at + t) (drop t ws)
 
       later : Mark
       later = firstMark lead g pool p (drop (wide f) ws) (b + length bs)
 
       -- a field's own mark comes before those behind it
-      join : (mk : Mark) → Mine mk bs → First later (b + length bs) (left (wide f)) → First (ahead mk b later) b (bs ++ left (wide f))
-      join Clear h ih = behind later b bs (left (wide f)) ih
-      join (At j) h ih = (j, refl, front bs (left (wide f)) j h)
+      join : (mk : Mark) → Mine mk bs → First later (b + length bs) (due (wide f)) → First (ahead mk b later) b (bs ++ due (wide f))
+      join Clear h ih = behind later b bs (due (wide f)) ih
+      join (At j) h ih = (j, refl, front bs (due (wide f)) j h)
 
       go : (l : Flaw)
-          → (Reaches (walk (writer pool) p (drop (wide f) ws) (at + wide f) (made + length bs)) → First later (b + length bs) (left (wide f)))
+          → (Reaches (walk (writer pool) p (drop (wide f) ws) (at + wide f) (made + length bs)) → First later (b + length bs) (due (wide f)))
           → Reaches (next (unless l (Fine (wide f) (length bs))) (λ t m. walk (writer pool) p (drop t ws) (at + t) (made + m)) at)
-          → First (ahead (mark lead g f ws) b later) b (bs ++ left (took (unless l (Fine (wide f) (length bs)))))
+          → First (ahead (mark lead g f ws) b later) b (bs ++ due (took (unless l (Fine (wide f) (length bs)))))
       go (Wrong w j) ih u = absurd u
       go Right ih u = join (mark lead g f ws) (field-mark pool f ws (known .0)) (ih u)
 

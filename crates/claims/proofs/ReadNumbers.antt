@@ -103,13 +103,13 @@ module _ (P : Refusal → Type 0) (h : Scans P) where
 
   -- ---- extern names
 
-  onward-why : (l : Leaf) (k : ℕ → ℕ → Leaf) → Why l → ((at left : ℕ) → Why (k at left)) → Why (onward l k)
-  onward-why (Fine at left) k e f = f at left
+  onward-why : (l : Leaf) (k : ℕ → ℕ → Leaf) → Why l → ((at due : ℕ) → Why (k at due)) → Why (onward l k)
+  onward-why (Fine at due) k e f = f at due
   onward-why (Bad w j) k e f = e
 
-  string-why : (bs : List ℕ) (at left : ℕ) → Why (stringAt bs at left)
-  string-why bs at left =
-      onward-why (past at (scanName (drop at bs))) (λ next m. Fine next left) (past-why at (scanName (drop at bs)) (name-why (drop at bs)))
+  string-why : (bs : List ℕ) (at due : ℕ) → Why (stringAt bs at due)
+  string-why bs at due =
+      onward-why (past at (scanName (drop at bs))) (λ next m. Fine next due) (past-why at (scanName (drop at bs)) (name-why (drop at bs)))
       (λ next m. tt)
 
   count-why : (bs : List ℕ) (at : ℕ) → Why (countAt bs at)
@@ -121,14 +121,14 @@ module _ (P : Refusal → Type 0) (h : Scans P) where
       go taken.Cut = h .cut
       go taken.Bad = h .number
 
-  slot-why : (k : ℕ) (bs : List ℕ) (at left : ℕ) → Why (slotScan k bs at left)
+  slot-why : (k : ℕ) (bs : List ℕ) (at due : ℕ) → Why (slotScan k bs at due)
   unfolding slotScan
-  slot-why k bs at left =
-      on-test Why (eqb left 0) tt (on-test Why (leb (length bs) at) (h .cut) (on-test Why (eqb (byte bs at) k) (string-why bs (at + 1) (left - 1)) tt))
+  slot-why k bs at due =
+      on-test Why (eqb due 0) tt (on-test Why (leb (length bs) at) (h .cut) (on-test Why (eqb (byte bs at) k) (string-why bs (at + 1) (due - 1)) tt))
 
-  end-why : (bs : List ℕ) (at left : ℕ) → Why (endScan bs at left)
+  end-why : (bs : List ℕ) (at due : ℕ) → Why (endScan bs at due)
   unfolding endScan
-  end-why bs at left = on-test Why (eqb left 0) tt (on-test Why (leb (length bs) at) (h .cut) (h .code))
+  end-why bs at due = on-test Why (eqb due 0) tt (on-test Why (leb (length bs) at) (h .cut) (h .code))
 
   extern-why : (g : ℕ) (bs : List ℕ) → Why (scanExtern g bs)
   unfolding scanExtern secondScan firstScan headScan
@@ -137,9 +137,9 @@ module _ (P : Refusal → Type 0) (h : Scans P) where
       (onward-why (secondScan g bs) (slotScan 0x02 bs)
       (onward-why (firstScan g bs) (slotScan 0x01 bs)
       (onward-why (headScan g bs) (slotScan 0x00 bs)
-      (either-why bs 0x00 (stringAt bs 1 0) 0x02 (asked g 3 0 (onward (stringAt bs 1 0) (λ at left. countAt bs at))) (string-why bs 1 0)
-      (asked-why g 3 0 (onward (stringAt bs 1 0) (λ at left. countAt bs at))
-      (onward-why (stringAt bs 1 0) (λ at left. countAt bs at) (string-why bs 1 0) (λ at left. count-why bs at))))
+      (either-why bs 0x00 (stringAt bs 1 0) 0x02 (asked g 3 0 (onward (stringAt bs 1 0) (λ at due. countAt bs at))) (string-why bs 1 0)
+      (asked-why g 3 0 (onward (stringAt bs 1 0) (λ at due. countAt bs at))
+      (onward-why (stringAt bs 1 0) (λ at due. countAt bs at) (string-why bs 1 0) (λ at due. count-why bs at))))
       (slot-why 0x00 bs)) (slot-why 0x01 bs)) (slot-why 0x02 bs)) (end-why bs)
 
   -- ---- references

@@ -49,11 +49,11 @@ module _ (L : Field → List ℕ → Leaf) (xs : List ℕ) (g : List Field) (n f
         let e : n - i ≡ 0 = omega arith in
         sym (so .whole ∙ ap (λ k. onward L xs (repeated k g) at made) e)
 
-    -- a turn: l is what one group comes to
+    -- a round: l is what one group comes to
     module _ (h : i < n) (l : Leaf) (el : l ≡ onward L xs g at made) where
-      turn : onward L xs (repeated n g) from base ≡ after l (onward L xs (repeated (n - (i + 1)) g))
+      round : onward L xs (repeated n g) from base ≡ after l (onward L xs (repeated (n - (i + 1)) g))
       unfolding repeated
-      turn =
+      round =
           let e : n - i ≡ suc (n - (i + 1)) = omega arith in
           so .whole
           ∙ ap (λ k. onward L xs (repeated k g) at made) e
@@ -61,7 +61,7 @@ module _ (L : Field → List ℕ → Leaf) (xs : List ℕ) (g : List Field) (n f
           ∙ ap (λ l. after l (onward L xs (repeated (n - (i + 1)) g))) (sym el)
 
       pub walked-next : (a m : ℕ) → l ≡ Fine a m → Walked L xs g n from base (i + 1) a m
-      walked-next a m e = record { count = omega arith; whole = turn ∙ ap (λ l. after l (onward L xs (repeated (n - (i + 1)) g))) e }
+      walked-next a m e = record { count = omega arith; whole = round ∙ ap (λ l. after l (onward L xs (repeated (n - (i + 1)) g))) e }
 
       pub walked-bad : (w : Refusal) (j : ℕ) → l ≡ Bad w j → Bad w j ≡ onward L xs (repeated n g) from base
-      walked-bad w j e = sym (turn ∙ ap (λ l. after l (onward L xs (repeated (n - (i + 1)) g))) e)
+      walked-bad w j e = sym (round ∙ ap (λ l. after l (onward L xs (repeated (n - (i + 1)) g))) e)

@@ -84,11 +84,11 @@ value-short g input at {x} e n =
     (k .0, subst (λ (m : ℕ). x .took ≤ m) (length-drop at input) (k .1))
 
 -- a group of one field, to any place that is past it
-pub going-past : {g : ℕ} {input : List ℕ} {f : Field} {n from left at : ℕ} → Going g input (f ∷ field.Nothing ∷ []) n from left at
-    → 0 < left → {t : ℕ} → scan 1 g f (drop at input) ≡ Fine t 2 → (b : ℕ) → b ≡ at + t
-    → Going g input (f ∷ field.Nothing ∷ []) n from (left - 1) b
-going-past {g} {input} {f} {n} {from} {left} {at} o some e b p =
-    subst (λ (a : ℕ). Going g input (f ∷ field.Nothing ∷ []) n from (left - 1) a) (sym p) (going-alone o some e)
+pub going-past : {g : ℕ} {input : List ℕ} {f : Field} {n from due at : ℕ} → Going g input (f ∷ field.Nothing ∷ []) n from due at
+    → 0 < due → {t : ℕ} → scan 1 g f (drop at input) ≡ Fine t 2 → (b : ℕ) → b ≡ at + t
+    → Going g input (f ∷ field.Nothing ∷ []) n from (due - 1) b
+going-past {g} {input} {f} {n} {from} {due} {at} o some e b p =
+    subst (λ (a : ℕ). Going g input (f ∷ field.Nothing ∷ []) n from (due - 1) a) (sym p) (going-alone o some e)
 
 -- ---- an O with 00 behind it
 

@@ -62,9 +62,9 @@ module _ (input : List ℕ) (at : ℕ) (r : Pair) (e : r ≡ pair 1 field.Name (
   fine-name h = rw e (pair-some 1 field.Name (drop at input) refl (rw (← e) h))
 
   -- where it takes bytes, it is right, and ends inside the input
-  pub string-right : 0 < r .took → (left : ℕ) → stringAt input at left ≡ Fine (at + r .took) left
+  pub string-right : 0 < r .took → (due : ℕ) → stringAt input at due ≡ Fine (at + r .took) due
   unfolding scan
-  string-right h left = ap (λ l. onward (past at l) (λ next m. Fine next left)) (fine-name h .0)
+  string-right h due = ap (λ l. onward (past at l) (λ next m. Fine next due)) (fine-name h .0)
 
   pub string-inside : 0 < r .took → at + r .took ≤ length input
   string-inside h = omega (arith, fine-name h .2, length-drop at input)
@@ -85,21 +85,21 @@ module _ (input : List ℕ) (at : ℕ) (r : Pair) (e : r ≡ pair 1 field.Name (
       omega (arith, size-small (drop at input))
 
   -- where it takes none, it is not right
-  pub string-wrong : r .took ≡ 0 → (left : ℕ) → Wrong (stringAt input at left)
+  pub string-wrong : r .took ≡ 0 → (due : ℕ) → Wrong (stringAt input at due)
   unfolding scan
-  string-wrong z left = go (scanName (drop at input)) (pair-none 1 field.Name (drop at input) tt (rw (← e) z))
+  string-wrong z due = go (scanName (drop at input)) (pair-none 1 field.Name (drop at input) tt (rw (← e) z))
     where
-      go : (l : Leaf) → Wrong l → Wrong (onward (past at l) (λ next m. Fine next left))
+      go : (l : Leaf) → Wrong l → Wrong (onward (past at l) (λ next m. Fine next due))
       go (Fine t m) w = absurd w
       go (Bad y j) w = tt
 
 -- a string that is right ends inside the input
-string-ends : (input : List ℕ) (at left a m : ℕ) → at ≤ length input → stringAt input at left ≡ Fine a m → a ≤ length input
+string-ends : (input : List ℕ) (at due a m : ℕ) → at ≤ length input → stringAt input at due ≡ Fine a m → a ≤ length input
 unfolding scan
-string-ends input at left a m h e = go (scanName (drop at input)) (λ t k q. scan-takes 1 field.Name (drop at input) t k tt q .1) e
+string-ends input at due a m h e = go (scanName (drop at input)) (λ t k q. scan-takes 1 field.Name (drop at input) t k tt q .1) e
   where
     go : (l : Leaf) → ((t k : ℕ) → l ≡ Fine t k → t ≤ length (drop at input))
-        → onward (past at l) (λ next x. Fine next left) ≡ Fine a m → a ≤ length input
+        → onward (past at l) (λ next x. Fine next due) ≡ Fine a m → a ≤ length input
     go (Fine t k) f e =
         let x : at + t ≡ a = cc in
         omega (arith, f t k refl, length-drop at input)
@@ -114,11 +114,11 @@ told l m ws vs {r} {s} p q e h =
 
 told-wrong : (l : Leaf) (ws : List ℕ) (r : Slot) → Wrong l → r ≡ noSlot 0 0 → SlotTold l ws r
 told-wrong (Fine a m) ws r w e = absurd w
-told-wrong (Bad y j) ws r w e = (ap (λ (s : Slot). s .next) e, ap (λ (s : Slot). s .left) e)
+told-wrong (Bad y j) ws r w e = (ap (λ (s : Slot). s .next) e, ap (λ (s : Slot). s .due) e)
 
 -- what is told: a place, where the option is right; 0, where it is not
 told-fine : (l : Leaf) (ws : List ℕ) (r : Slot) → SlotTold l ws r → (r .next ≡ 0 → ⊥)
-    → (l ≡ Fine (r .next) (r .left)) × (slotWords r ≡ ws) × (0 < r .next)
+    → (l ≡ Fine (r .next) (r .due)) × (slotWords r ≡ ws) × (0 < r .next)
 told-fine (Fine a m) ws r h n =
     (ap (λ x. Fine x m) (sym (h .1)) ∙ ap (λ x. Fine (r .next) x) (sym (h .2)), h .3, h .0)
 told-fine (Bad y j) ws r h n = absurd (n (h .0))
@@ -129,74 +129,74 @@ told-none (Fine a m) ws r h z =
     absurd (omega arith)
 told-none (Bad y j) ws r h z = tt
 
-module _ (k : ℕ) (input : List ℕ) (at left : ℕ) where
+module _ (k : ℕ) (input : List ℕ) (at due : ℕ) where
   abbrev place : Leaf
-  place = slotScan k input at left
+  place = slotScan k input at due
 
   abbrev words : List ℕ
-  words = fillSlot k 0 input (Fine at left)
+  words = fillSlot k 0 input (Fine at due)
 
   abbrev Told : Slot → Type 0
   Told r = SlotTold place words r
 
   -- none is to come
-  pub slot-done : {r : Slot} → 0 < at → left ≡ 0 → r ≡ noSlot at 0 → Told r
+  pub slot-done : {r : Slot} → 0 < at → due ≡ 0 → r ≡ noSlot at 0 → Told r
   unfolding slotScan fillSlot
-  slot-done h z e = told place (Fine at 0) words (0 ∷ 0 ∷ 0 ∷ []) (simp (eq-eqb left 0 z)) (simp (eq-eqb left 0 z)) e (h, refl, refl, refl)
+  slot-done h z e = told place (Fine at 0) words (0 ∷ 0 ∷ 0 ∷ []) (simp (eq-eqb due 0 z)) (simp (eq-eqb due 0 z)) e (h, refl, refl, refl)
 
-  module _ (some : left ≡ 0 → ⊥) where
+  module _ (some : due ≡ 0 → ⊥) where
     -- the input ends
     pub slot-cut : {r : Slot} → length input ≤ at → r ≡ noSlot 0 0 → Told r
     unfolding slotScan
     slot-cut {r} h e =
-        let is : place ≡ Bad Cut (length input) = simp (ne-eqb left 0 some, le-leb (length input) at h) in
+        let is : place ≡ Bad Cut (length input) = simp (ne-eqb due 0 some, le-leb (length input) at h) in
         told-wrong place words r (subst Wrong (sym is) tt) e
 
     module _ (more : at < length input) where
       -- another byte
-      pub slot-other : {r : Slot} → 0 < at → (byte input at ≡ k → ⊥) → r ≡ noSlot at left → Told r
+      pub slot-other : {r : Slot} → 0 < at → (byte input at ≡ k → ⊥) → r ≡ noSlot at due → Told r
       unfolding slotScan fillSlot
       slot-other p h e =
-          told place (Fine at left) words (0 ∷ 0 ∷ 0 ∷ [])
-          (simp (ne-eqb left 0 some, lt-leb (length input) at more, ne-eqb (byte input at) k h))
-          (simp (ne-eqb left 0 some, ne-eqb (byte input at) k h)) e (p, refl, refl, refl)
+          told place (Fine at due) words (0 ∷ 0 ∷ 0 ∷ [])
+          (simp (ne-eqb due 0 some, lt-leb (length input) at more, ne-eqb (byte input at) k h))
+          (simp (ne-eqb due 0 some, ne-eqb (byte input at) k h)) e (p, refl, refl, refl)
 
       -- its byte, and a string n
       module _ (h : byte input at ≡ k) (n : Pair) (e : n ≡ pair 1 field.Name (drop (at + 1) input)) where
-        scanned : slotScan k input at left ≡ stringAt input (at + 1) (left - 1)
+        scanned : slotScan k input at due ≡ stringAt input (at + 1) (due - 1)
         unfolding slotScan
-        scanned = simp (ne-eqb left 0 some, lt-leb (length input) at more, eq-eqb (byte input at) k h)
+        scanned = simp (ne-eqb due 0 some, lt-leb (length input) at more, eq-eqb (byte input at) k h)
 
         pub slot-wrong : {r : Slot} → n .took ≡ 0 → r ≡ noSlot 0 0 → Told r
-        slot-wrong {r} z q = told-wrong place words r (subst Wrong (sym scanned) (string-wrong input (at + 1) n e z (left - 1))) q
+        slot-wrong {r} z q = told-wrong place words r (subst Wrong (sym scanned) (string-wrong input (at + 1) n e z (due - 1))) q
 
         pub slot-right : 0 < n .took
-            → Told (record { next = at + 1 + n .took; left = left - 1; present = 1; start = at + 1 + n .a; size = n .b })
+            → Told (record { next = at + 1 + n .took; due = due - 1; present = 1; start = at + 1 + n .a; size = n .b })
         unfolding fillSlot
         slot-right s =
-            told place (Fine (at + 1 + n .took) (left - 1)) words (1 ∷ (at + 1 + n .a) ∷ n .b ∷ [])
-            (scanned ∙ string-right input (at + 1) n e s (left - 1))
-            (simp (ne-eqb left 0 some, eq-eqb (byte input at) k h) (ap (λ ws. 1 ∷ ws) (string-words input (at + 1) n e s))) refl
+            told place (Fine (at + 1 + n .took) (due - 1)) words (1 ∷ (at + 1 + n .a) ∷ n .b ∷ [])
+            (scanned ∙ string-right input (at + 1) n e s (due - 1))
+            (simp (ne-eqb due 0 some, eq-eqb (byte input at) k h) (ap (λ ws. 1 ∷ ws) (string-words input (at + 1) n e s))) refl
             (omega arith, refl, refl, refl)
 
   -- an option that is right ends inside the input
-  slot-ends : (a m : ℕ) → at ≤ length input → slotScan k input at left ≡ Fine a m → a ≤ length input
+  slot-ends : (a m : ℕ) → at ≤ length input → slotScan k input at due ≡ Fine a m → a ≤ length input
   unfolding slotScan
-  slot-ends a m h e = go (eqb left 0) (leb (length input) at) refl (eqb (byte input at) k) e
+  slot-ends a m h e = go (eqb due 0) (leb (length input) at) refl (eqb (byte input at) k) e
     where
       go : (p q : Bool) → leb (length input) at ≡ q → (s : Bool)
-          → cond p (Fine at 0) (cond q (Bad Cut (length input)) (cond s (stringAt input (at + 1) (left - 1)) (Fine at left))) ≡ Fine a m
+          → cond p (Fine at 0) (cond q (Bad Cut (length input)) (cond s (stringAt input (at + 1) (due - 1)) (Fine at due))) ≡ Fine a m
           → a ≤ length input
       go true q f s e = let x : at ≡ a = cc in omega arith
       go false true f s e = impossible cc
-      go false false f true e = string-ends input (at + 1) (left - 1) a m (omega (arith, leb-false (length input) at f)) e
+      go false false f true e = string-ends input (at + 1) (due - 1) a m (omega (arith, leb-false (length input) at f)) e
       go false false f false e = let x : at ≡ a = cc in omega arith
 
   -- what is told of it: the next option begins inside the input
   pub slot-inside : (r : Slot) → Told r → at ≤ length input → (r .next ≡ 0 → ⊥) → (0 < r .next) × (r .next ≤ length input)
   slot-inside r t h n =
       let f = told-fine place words r t n in
-      (f .2, slot-ends (r .next) (r .left) h (f .0))
+      (f .2, slot-ends (r .next) (r .due) h (f .0))
 
 -- ---- the options, one after the other
 
@@ -228,8 +228,8 @@ module _ (n : Pair) (input : List ℕ) (at count : ℕ) where
         go (Bad y j) w = e
 
     module _ (some1 : one .next ≡ 0 → ⊥) (two : Slot)
-        (told2 : SlotTold (slotScan 1 input (one .next) (one .left)) (fillSlot 1 0 input (Fine (one .next) (one .left))) two) where
-      from-first : (r : Extern) → ByFirst r (Fine (one .next) (one .left)) → OptionsTold n input at count r
+        (told2 : SlotTold (slotScan 1 input (one .next) (one .due)) (fillSlot 1 0 input (Fine (one .next) (one .due))) two) where
+      from-first : (r : Extern) → ByFirst r (Fine (one .next) (one .due)) → OptionsTold n input at count r
       unfolding ByFirst BySecond
       from-first r h = subst (ByFirst r) (sym (told-fine (slotScan 0 input at count) (fillSlot 0 0 input (Fine at count)) one told1 some1 .0)) h
 
@@ -237,37 +237,37 @@ module _ (n : Pair) (input : List ℕ) (at count : ℕ) where
       unfolding ByFirst BySecond
       options-second z r e =
           from-first r
-          (go (slotScan 1 input (one .next) (one .left))
-          (told-none (slotScan 1 input (one .next) (one .left)) (fillSlot 1 0 input (Fine (one .next) (one .left))) two told2 z))
+          (go (slotScan 1 input (one .next) (one .due))
+          (told-none (slotScan 1 input (one .next) (one .due)) (fillSlot 1 0 input (Fine (one .next) (one .due))) two told2 z))
         where
           go : (l : Leaf) → Wrong l
-              → BySecond (fillSlot 0 0 input (Fine at count)) (fillSlot 1 0 input (Fine (one .next) (one .left))) r l
+              → BySecond (fillSlot 0 0 input (Fine at count)) (fillSlot 1 0 input (Fine (one .next) (one .due))) r l
           go (Fine a m) w = absurd w
           go (Bad y j) w = e
 
       module _ (some2 : two .next ≡ 0 → ⊥) (three : Slot)
-          (told3 : SlotTold (slotScan 2 input (two .next) (two .left)) (fillSlot 2 0 input (Fine (two .next) (two .left))) three) where
+          (told3 : SlotTold (slotScan 2 input (two .next) (two .due)) (fillSlot 2 0 input (Fine (two .next) (two .due))) three) where
         from-second : (r : Extern)
-            → Says (onward (slotScan 2 input (two .next) (two .left)) (endScan input))
-            ((1 + n .a) ∷ n .b ∷ (slotWords one ++ (slotWords two ++ fillSlot 2 0 input (Fine (two .next) (two .left))))) r
+            → Says (onward (slotScan 2 input (two .next) (two .due)) (endScan input))
+            ((1 + n .a) ∷ n .b ∷ (slotWords one ++ (slotWords two ++ fillSlot 2 0 input (Fine (two .next) (two .due))))) r
             → OptionsTold n input at count r
         unfolding ByFirst BySecond
         from-second r h =
             let f1 = told-fine (slotScan 0 input at count) (fillSlot 0 0 input (Fine at count)) one told1 some1 in
             let f2 =
-            told-fine (slotScan 1 input (one .next) (one .left)) (fillSlot 1 0 input (Fine (one .next) (one .left))) two told2 some2
+            told-fine (slotScan 1 input (one .next) (one .due)) (fillSlot 1 0 input (Fine (one .next) (one .due))) two told2 some2
             in
             from-first r
-            (subst (λ ws. BySecond ws (fillSlot 1 0 input (Fine (one .next) (one .left))) r (slotScan 1 input (one .next) (one .left))) (f1 .1)
-            (subst (λ vs. BySecond (slotWords one) vs r (slotScan 1 input (one .next) (one .left))) (f2 .1)
+            (subst (λ ws. BySecond ws (fillSlot 1 0 input (Fine (one .next) (one .due))) r (slotScan 1 input (one .next) (one .due))) (f1 .1)
+            (subst (λ vs. BySecond (slotWords one) vs r (slotScan 1 input (one .next) (one .due))) (f2 .1)
             (subst (BySecond (slotWords one) (slotWords two) r) (sym (f2 .0)) h)))
 
         -- more are to come than there are
-        pub options-third : 0 < three .left → (r : Extern) → r .took ≡ 0 → OptionsTold n input at count r
+        pub options-third : 0 < three .due → (r : Extern) → r .took ≡ 0 → OptionsTold n input at count r
         unfolding endScan
         options-third s r e =
             from-second r
-            (go (slotScan 2 input (two .next) (two .left)) (fillSlot 2 0 input (Fine (two .next) (two .left))) told3)
+            (go (slotScan 2 input (two .next) (two .due)) (fillSlot 2 0 input (Fine (two .next) (two .due))) told3)
           where
             over : (q : Bool) (a : ℕ) (ws : List ℕ) → Says (cond q (Bad Cut (length input)) (Bad Code a)) ws r
             over true a ws = e
@@ -276,21 +276,21 @@ module _ (n : Pair) (input : List ℕ) (at count : ℕ) where
             go : (l : Leaf) (ws : List ℕ) → SlotTold l ws three
                 → Says (onward l (endScan input)) ((1 + n .a) ∷ n .b ∷ (slotWords one ++ (slotWords two ++ ws))) r
             go (Fine a m) ws t =
-                let ne : m ≡ 0 → ⊥ = λ z. let x : three .left ≡ m = t .2 in omega arith in
+                let ne : m ≡ 0 → ⊥ = λ z. let x : three .due ≡ m = t .2 in omega arith in
                 simp (ne-eqb m 0 ne) (over (leb (length input) a) a _)
             go (Bad y j) ws t = e
 
         -- none is to come
-        pub options-right : three .left ≤ 0 → OptionsTold n input at count (externIs (three .next) n one two three)
+        pub options-right : three .due ≤ 0 → OptionsTold n input at count (externIs (three .next) n one two three)
         unfolding endScan
         options-right s =
             from-second (externIs (three .next) n one two three)
-            (go (slotScan 2 input (two .next) (two .left)) (fillSlot 2 0 input (Fine (two .next) (two .left))) told3)
+            (go (slotScan 2 input (two .next) (two .due)) (fillSlot 2 0 input (Fine (two .next) (two .due))) told3)
           where
             go : (l : Leaf) (ws : List ℕ) → SlotTold l ws three
                 → Says (onward l (endScan input)) ((1 + n .a) ∷ n .b ∷ (slotWords one ++ (slotWords two ++ ws))) (externIs (three .next) n one two three)
             go (Fine a m) ws t =
-                let z : m ≡ 0 = let x : three .left ≡ m = t .2 in omega arith in
+                let z : m ≡ 0 = let x : three .due ≡ m = t .2 in omega arith in
                 simp (eq-eqb m 0 z) (t .0, t .1, ap (λ vs. (1 + n .a) ∷ n .b ∷ (slotWords one ++ (slotWords two ++ vs))) (t .3))
             go (Bad y j) ws t = t .0
 
@@ -351,7 +351,7 @@ module _ (g : ℕ) (input : List ℕ) where
     unfolding headScan
     bare-head e = simp (lt-leb (length input) 0 some, eq-eqb (byte input 0) 0 e)
 
-    optioned-head : byte input 0 ≡ 2 → 3 ≤ g → headScan g input ≡ onward (stringAt input 1 0) (λ at left. countAt input at)
+    optioned-head : byte input 0 ≡ 2 → 3 ≤ g → headScan g input ≡ onward (stringAt input 1 0) (λ at due. countAt input at)
     unfolding headScan
     optioned-head e h =
         let ne : byte input 0 ≡ 0 → ⊥ = λ z. omega arith in
@@ -373,12 +373,12 @@ module _ (g : ℕ) (input : List ℕ) where
         optioned-wrong z r q =
             head-wrong r
             (subst Wrong (sym (optioned-head b top))
-            (onward-wrong (stringAt input 1 0) (λ at left. countAt input at) (string-wrong input 1 n e z 0))) q
+            (onward-wrong (stringAt input 1 0) (λ at due. countAt input at) (string-wrong input 1 n e z 0))) q
 
         -- behind the name, a count c as it is seen
         module _ (h : 0 < n .took) (c : Number) (d : c ≡ seen (takeUnsigned (drop (1 + n .took) input))) where
           counts : headScan g input ≡ countAt input (1 + n .took)
-          counts = optioned-head b top ∙ ap (λ l. onward l (λ at left. countAt input at)) (string-right input 1 n e h 0)
+          counts = optioned-head b top ∙ ap (λ l. onward l (λ at due. countAt input at)) (string-right input 1 n e h 0)
 
           pub count-none : c .took ≡ 0 → (r : Extern) → r .took ≡ 0 → ExternTold g input r
           unfolding countAt

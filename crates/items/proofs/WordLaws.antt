@@ -140,12 +140,12 @@ closed {g} {input} {at} {v} s e =
 -- ---- the loop
 
 -- the next group has room
-pub room-of : {g : ℕ} {input : List ℕ} {gs : List Field} {n from : ℕ} {first : List ℕ} {base left at to : ℕ} {row : List ℕ}
-    → Filling g input gs n from first base left at to row → 0 < left → (w : ℕ) → widths gs ≡ w → to + w ≤ length row
-room-of {gs = gs} {left = left} k some w e =
-    let p : left ≡ suc (left - 1) = omega arith in
-    let q : left * widths gs ≡ suc (left - 1) * widths gs = ap (λ j. j * widths gs) p in
-    omega (arith, k .room, e, q, suc-mul (left - 1) (widths gs))
+pub room-of : {g : ℕ} {input : List ℕ} {gs : List Field} {n from : ℕ} {first : List ℕ} {base due at to : ℕ} {row : List ℕ}
+    → Filling g input gs n from first base due at to row → 0 < due → (w : ℕ) → widths gs ≡ w → to + w ≤ length row
+room-of {gs = gs} {due = due} k some w e =
+    let p : due ≡ suc (due - 1) = omega arith in
+    let q : due * widths gs ≡ suc (due - 1) * widths gs = ap (λ j. j * widths gs) p in
+    omega (arith, k .room, e, q, suc-mul (due - 1) (widths gs))
 
 -- the words of each group
 pub labels-wide : widths (field.Name ∷ field.Nothing ∷ []) ≡ 2
@@ -164,11 +164,11 @@ pub cases-wide : widths (field.Name ∷ field.OptionalThenZero ∷ []) ≡ 4
 unfolding widths wide
 cases-wide = refl
 
-module _ {g : ℕ} {input : List ℕ} {n from : ℕ} {first : List ℕ} {base left at to : ℕ} {row : List ℕ} where
+module _ {g : ℕ} {input : List ℕ} {n from : ℕ} {first : List ℕ} {base due at to : ℕ} {row : List ℕ} where
   -- past a label
-  pub label-next : {r : Number} → Filling g input (field.Name ∷ field.Nothing ∷ []) n from first base left at to row → 0 < left
+  pub label-next : {r : Number} → Filling g input (field.Name ∷ field.Nothing ∷ []) n from first base due at to row → 0 < due
       → Named g input at r
-      → Filling g input (field.Name ∷ field.Nothing ∷ []) n from first base (left - 1) (at + r .took + r .value) (to + 2)
+      → Filling g input (field.Name ∷ field.Nothing ∷ []) n from first base (due - 1) (at + r .took + r .value) (to + 2)
       (set (set row to (at + r .took)) (to + 1) (r .value))
   label-next {r} k some s =
       let here : at + (r .took + r .value) ≡ at + r .took + r .value = omega arith in
@@ -176,19 +176,19 @@ module _ {g : ℕ} {input : List ℕ} {n from : ℕ} {first : List ℕ} {base le
       filling-as (filling-alone k some (s .is) _ stored) here (ap (λ j. to + j) labels-wide)
 
   -- past a V
-  pub value-next : {v : Pair} → Filling g input (field.Value ∷ field.Nothing ∷ []) n from first base left at to row → 0 < left
+  pub value-next : {v : Pair} → Filling g input (field.Value ∷ field.Nothing ∷ []) n from first base due at to row → 0 < due
       → Paired g input field.Value at v
-      → Filling g input (field.Value ∷ field.Nothing ∷ []) n from first base (left - 1) (at + v .took) (to + 2)
+      → Filling g input (field.Value ∷ field.Nothing ∷ []) n from first base (due - 1) (at + v .took) (to + 2)
       (set (set row to (v .a)) (to + 1) (v .b))
   value-next {v} k some s =
       let stored = set-two row to (v .a) (v .b) ∙ ap (λ (l : List ℕ). sets row to l) (sym (s .words)) in
       filling-as (filling-alone k some (s .is) _ stored) refl (ap (λ j. to + j) values-wide)
 
   -- past a name and a field of two words behind it
-  group-next : {h : Field} {r : Number} {u m a b : ℕ} → Filling g input (field.Name ∷ h ∷ []) n from first base left at to row → 0 < left
+  group-next : {h : Field} {r : Number} {u m a b : ℕ} → Filling g input (field.Name ∷ h ∷ []) n from first base due at to row → 0 < due
       → widths (field.Name ∷ h ∷ []) ≡ 4 → Named g input at r → scan 1 g h (drop (at + r .took + r .value) input) ≡ Fine u m
       → fill g h (at + r .took + r .value) (drop (at + r .took + r .value) input) ≡ a ∷ b ∷ []
-      → Filling g input (field.Name ∷ h ∷ []) n from first base (left - 1) (at + r .took + r .value + u) (to + 4)
+      → Filling g input (field.Name ∷ h ∷ []) n from first base (due - 1) (at + r .took + r .value + u) (to + 4)
       (set (set (set (set row to (at + r .took)) (to + 1) (r .value)) (to + 2) a) (to + 3) b)
   group-next {h} {r} {u} {m} {a} {b} k some wd s d ws =
       let p : at + r .took + r .value ≡ at + (r .took + r .value) = omega arith in
@@ -202,31 +202,31 @@ module _ {g : ℕ} {input : List ℕ} {n from : ℕ} {first : List ℕ} {base le
       filling-as (filling-next k some (s .is) there _ stored) (ap (λ j. j + u) (sym p)) (ap (λ j. to + j) wd)
 
   -- past a name and a V
-  pub field-next : {r : Number} {v : Pair} → Filling g input (field.Name ∷ field.Value ∷ []) n from first base left at to row → 0 < left
+  pub field-next : {r : Number} {v : Pair} → Filling g input (field.Name ∷ field.Value ∷ []) n from first base due at to row → 0 < due
       → Named g input at r → Paired g input field.Value (at + r .took + r .value) v
-      → Filling g input (field.Name ∷ field.Value ∷ []) n from first base (left - 1) (at + r .took + r .value + v .took) (to + 4)
+      → Filling g input (field.Name ∷ field.Value ∷ []) n from first base (due - 1) (at + r .took + r .value + v .took) (to + 4)
       (set (set (set (set row to (at + r .took)) (to + 1) (r .value)) (to + 2) (v .a)) (to + 3) (v .b))
   field-next k some s p = group-next k some fields-wide s (p .is) (p .words)
 
   -- past a name, an O and 00
-  pub case-next : {r : Number} {v : Pair} → Filling g input (field.Name ∷ field.OptionalThenZero ∷ []) n from first base left at to row
-      → 0 < left → Named g input at r → Closed g input (at + r .took + r .value) v
-      → Filling g input (field.Name ∷ field.OptionalThenZero ∷ []) n from first base (left - 1)
+  pub case-next : {r : Number} {v : Pair} → Filling g input (field.Name ∷ field.OptionalThenZero ∷ []) n from first base due at to row
+      → 0 < due → Named g input at r → Closed g input (at + r .took + r .value) v
+      → Filling g input (field.Name ∷ field.OptionalThenZero ∷ []) n from first base (due - 1)
       (at + r .took + r .value + (v .took + 1)) (to + 4)
       (set (set (set (set row to (at + r .took)) (to + 1) (r .value)) (to + 2) (v .a)) (to + 3) (v .b))
   case-next k some s p = group-next k some cases-wide s (p .is) (p .words)
 
 -- a place and a row under other names
-pub filling-now : {g : ℕ} {input : List ℕ} {gs : List Field} {n from : ℕ} {first : List ℕ} {base left at at′ to : ℕ} {row row′ : List ℕ}
-    → Filling g input gs n from first base left at to row → row′ ≡ row → at′ ≡ at
-    → Filling g input gs n from first base left at′ to row′
-filling-now {g} {input} {gs} {n} {from} {first} {base} {left} {at} {at′} {to} {row} {row′} k er ea =
-    subst (λ (l : List ℕ). Filling g input gs n from first base left at′ to l) (sym er)
-    (subst (λ j. Filling g input gs n from first base left j to row) (sym ea) k)
+pub filling-now : {g : ℕ} {input : List ℕ} {gs : List Field} {n from : ℕ} {first : List ℕ} {base due at at′ to : ℕ} {row row′ : List ℕ}
+    → Filling g input gs n from first base due at to row → row′ ≡ row → at′ ≡ at
+    → Filling g input gs n from first base due at′ to row′
+filling-now {g} {input} {gs} {n} {from} {first} {base} {due} {at} {at′} {to} {row} {row′} k er ea =
+    subst (λ (l : List ℕ). Filling g input gs n from first base due at′ to l) (sym er)
+    (subst (λ j. Filling g input gs n from first base due j to row) (sym ea) k)
 
 -- the second field of a group is right where its name ends
-pub second-stands : {g : ℕ} {input : List ℕ} {h : Field} {n from : ℕ} {first : List ℕ} {base left at to : ℕ} {row : List ℕ} {r : Number}
-    → Filling g input (field.Name ∷ h ∷ []) n from first base left at to row → 0 < left → Named g input at r
+pub second-stands : {g : ℕ} {input : List ℕ} {h : Field} {n from : ℕ} {first : List ℕ} {base due at to : ℕ} {row : List ℕ} {r : Number}
+    → Filling g input (field.Name ∷ h ∷ []) n from first base due at to row → 0 < due → Named g input at r
     → Stands g input h (at + r .took + r .value)
 second-stands {g} {input} {h} {at = at} {r = r} k some s =
     let p : at + (r .took + r .value) ≡ at + r .took + r .value = omega arith in

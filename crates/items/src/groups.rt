@@ -22,15 +22,15 @@ fn labels_end(input: &[u8], from: usize, n: usize) -> usize
     ensures { λ r. ⌜ r ≡ endOf (scans 1 (now (input .entry)) (repeated n (field.Name ∷ field.Nothing ∷ [])) from 0) ⌝ }
 {
     let mut at = from;
-    let mut left = n;
-    while 0 < left {
+    let mut due = n;
+    while 0 < due {
         let one = name(&input[at..]);
         let took = one.took;
         if took == 0 {
             return 0;
         }
         at += took;
-        left -= 1;
+        due -= 1;
     }
     at
 }
@@ -42,15 +42,15 @@ fn fill_labels(input: &[u8], from: usize, n: usize, row: &mut [u32], base: usize
 {
     let mut at = from;
     let mut to = base;
-    let mut left = n;
-    while 0 < left {
+    let mut due = n;
+    while 0 < due {
         let one = seen_unsigned(&input[at..]);
         let start = at + one.took;
         row[to] = start as u32;
         row[to + 1] = one.value;
         at = start + (one.value as usize);
         to += 2;
-        left -= 1;
+        due -= 1;
     }
 }
 
@@ -60,8 +60,8 @@ fn values_end(grade: u32, input: &[u8], from: usize, n: usize) -> usize
     ensures { λ r. ⌜ r ≡ endOf (scans grade (now (input .entry)) (repeated n (field.Value ∷ field.Nothing ∷ [])) from 0) ⌝ }
 {
     let mut at = from;
-    let mut left = n;
-    while 0 < left {
+    let mut due = n;
+    while 0 < due {
         let short = numbers::short_signed(&input[at..]);
         let took = short.took;
         if took == 0 {
@@ -73,7 +73,7 @@ fn values_end(grade: u32, input: &[u8], from: usize, n: usize) -> usize
             at += more;
         }
         at += took;
-        left -= 1;
+        due -= 1;
     }
     at
 }
@@ -85,8 +85,8 @@ fn fill_values(grade: u32, input: &[u8], from: usize, n: usize, row: &mut [u32],
 {
     let mut at = from;
     let mut to = base;
-    let mut left = n;
-    while 0 < left {
+    let mut due = n;
+    while 0 < due {
         let short = numbers::short_signed(&input[at..]);
         let took = short.took;
         if 0 < took {
@@ -100,7 +100,7 @@ fn fill_values(grade: u32, input: &[u8], from: usize, n: usize, row: &mut [u32],
             at += one.took;
         }
         to += 2;
-        left -= 1;
+        due -= 1;
     }
 }
 
@@ -110,8 +110,8 @@ pub fn fields_end(grade: u32, input: &[u8], from: usize, n: usize) -> usize
     ensures { λ r. ⌜ r ≡ endOf (scans grade (now (input .entry)) (repeated n (field.Name ∷ field.Value ∷ [])) from 0) ⌝ }
 {
     let mut at = from;
-    let mut left = n;
-    while 0 < left {
+    let mut due = n;
+    while 0 < due {
         let one = name(&input[at..]);
         let took = one.took;
         if took == 0 {
@@ -124,7 +124,7 @@ pub fn fields_end(grade: u32, input: &[u8], from: usize, n: usize) -> usize
             return 0;
         }
         at += more;
-        left -= 1;
+        due -= 1;
     }
     at
 }
@@ -136,8 +136,8 @@ pub fn fill_fields(grade: u32, input: &[u8], from: usize, n: usize, row: &mut [u
 {
     let mut at = from;
     let mut to = base;
-    let mut left = n;
-    while 0 < left {
+    let mut due = n;
+    while 0 < due {
         let one = seen_unsigned(&input[at..]);
         let start = at + one.took;
         row[to] = start as u32;
@@ -148,7 +148,7 @@ pub fn fill_fields(grade: u32, input: &[u8], from: usize, n: usize, row: &mut [u
         row[to + 3] = two.b;
         at += two.took;
         to += 4;
-        left -= 1;
+        due -= 1;
     }
 }
 
@@ -175,8 +175,8 @@ fn cases_end(grade: u32, input: &[u8], from: usize, n: usize) -> usize
     ensures { λ r. ⌜ r ≡ endOf (scans grade (now (input .entry)) (repeated n (field.Name ∷ field.OptionalThenZero ∷ [])) from 0) ⌝ }
 {
     let mut at = from;
-    let mut left = n;
-    while 0 < left {
+    let mut due = n;
+    while 0 < due {
         let one = name(&input[at..]);
         let took = one.took;
         if took == 0 {
@@ -188,7 +188,7 @@ fn cases_end(grade: u32, input: &[u8], from: usize, n: usize) -> usize
             return 0;
         }
         at += more;
-        left -= 1;
+        due -= 1;
     }
     at
 }
@@ -200,8 +200,8 @@ fn fill_cases(grade: u32, input: &[u8], from: usize, n: usize, row: &mut [u32], 
 {
     let mut at = from;
     let mut to = base;
-    let mut left = n;
-    while 0 < left {
+    let mut due = n;
+    while 0 < due {
         let one = seen_unsigned(&input[at..]);
         let start = at + one.took;
         row[to] = start as u32;
@@ -212,7 +212,7 @@ fn fill_cases(grade: u32, input: &[u8], from: usize, n: usize, row: &mut [u32], 
         row[to + 3] = two.b;
         at += two.took + 1;
         to += 4;
-        left -= 1;
+        due -= 1;
     }
 }
 

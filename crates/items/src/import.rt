@@ -29,7 +29,7 @@ pub struct Three {
 // An option of an extern name: the place behind it, 0 where it is not right, how many options are still to come, and its words.
 pub struct Slot {
     pub next: usize,
-    pub left: u32,
+    pub due: u32,
     pub present: u32,
     pub start: u32,
     pub size: u32,
@@ -157,12 +157,12 @@ pub fn reference(grade: u32, bs: &[u8]) -> Three
     no_three()
 }
 
-fn no_slot(next: usize, left: u32) -> Slot
-    ensures { λ r. ⌜ r ≡ noSlot next left ⌝ }
+fn no_slot(next: usize, due: u32) -> Slot
+    ensures { λ r. ⌜ r ≡ noSlot next due ⌝ }
 {
     Slot {
         next: next,
-        left: left,
+        due: due,
         present: 0,
         start: 0,
         size: 0,
@@ -170,11 +170,11 @@ fn no_slot(next: usize, left: u32) -> Slot
 }
 
 // Option k at a place, with so many options still to come: its byte and a string, or nothing.
-fn slot_at(k: u8, input: &[u8], at: usize, left: u32) -> Slot
+fn slot_at(k: u8, input: &[u8], at: usize, due: u32) -> Slot
     requires { ⌜ (length (now input) ≤ inputBytes) × (0 < at) × (at ≤ length (now input)) ⌝ }
-    ensures { λ r. ⌜ SlotTold (slotScan k (now (input .entry)) at left) (fillSlot k 0 (now (input .entry)) (Fine at left)) r ⌝ }
+    ensures { λ r. ⌜ SlotTold (slotScan k (now (input .entry)) at due) (fillSlot k 0 (now (input .entry)) (Fine at due)) r ⌝ }
 {
-    if left == 0 {
+    if due == 0 {
         return no_slot(at, 0);
     }
     if input.len() <= at {
@@ -189,13 +189,13 @@ fn slot_at(k: u8, input: &[u8], at: usize, left: u32) -> Slot
         }
         return Slot {
             next: begin + took,
-            left: left - 1,
+            due: due - 1,
             present: 1,
             start: begin as u32 + n.a,
             size: n.b,
         };
     }
-    no_slot(at, left)
+    no_slot(at, due)
 }
 
 fn no_extern() -> Extern
@@ -242,12 +242,12 @@ fn options(name: Pair, input: &[u8], at: usize, count: u32) -> Extern
     if one.next == 0 {
         return no_extern();
     }
-    let two = slot_at(0x01, input, one.next, one.left);
+    let two = slot_at(0x01, input, one.next, one.due);
     if two.next == 0 {
         return no_extern();
     }
-    let three = slot_at(0x02, input, two.next, two.left);
-    if 0 < three.left {
+    let three = slot_at(0x02, input, two.next, two.due);
+    if 0 < three.due {
         return no_extern();
     }
     Extern {

@@ -98,7 +98,7 @@ scale-bound (suc (suc (suc (suc (suc i))))) h = absurd (omega arith)
 -- the loop's invariant: the whole reads as what the bytes before i come to, with what those from i on read as
 pub record Begun (s : List ℕ) (end i low scale least : ℕ) : Type 0 where
   pub k : ℕ
-  pub left : k + i ≡ 5
+  pub due : k + i ≡ 5
   pub scaled : scale ≡ room 1 i
   pub below : low < scale
   pub short : least ≤ end * scale
@@ -106,20 +106,20 @@ pub record Begun (s : List ℕ) (end i low scale least : ℕ) : Type 0 where
 
 pub begun : (s : List ℕ) (end : ℕ) → Begun s end 0 0 1 0
 begun s end =
-    record { k = 5; left = omega arith; scaled = refl; below = omega arith; short = omega arith; is = after-none (numberIn end 5 s) }
+    record { k = 5; due = omega arith; scaled = refl; below = omega arith; short = omega arith; is = after-none (numberIn end 5 s) }
 
 -- one byte more may be read
 record Open (s : List ℕ) (end i low scale least : ℕ) : Type 0 where
   j : ℕ
-  left : suc j + i ≡ 5
+  due : suc j + i ≡ 5
   is : numberIn end 5 s ≡ after low scale least i (numberIn end (suc j) (drop i s))
 
 opened : {s : List ℕ} {end i low scale least : ℕ} → Begun s end i low scale least → i < 5 → Open s end i low scale least
-opened {s} {end} {i} {low} {scale} {least} B h = go (B .k) (B .left) (B .is)
+opened {s} {end} {i} {low} {scale} {least} B h = go (B .k) (B .due) (B .is)
   where
     go : (k : ℕ) → k + i ≡ 5 → numberIn end 5 s ≡ after low scale least i (numberIn end k (drop i s)) → Open s end i low scale least
     go zero l e = absurd (omega arith)
-    go (suc j) l e = record { j = j; left = l; is = e }
+    go (suc j) l e = record { j = j; due = l; is = e }
 
 module _ {s : List ℕ} {end i low scale least : ℕ} (B : Begun s end i low scale least) (h : i < 5) where
   O : Open s end i low scale least
@@ -154,7 +154,7 @@ module _ {s : List ℕ} {end i low scale least : ℕ} (B : Begun s end i low sca
     again m f =
         record {
           k = O .j;
-          left = omega (arith, O .left);
+          due = omega (arith, O .due);
           scaled = rw add-one (omega (arith, B .scaled));
           below = omega (arith, B .below, mul-le-mul-right {m = getD s i 0 - 128} {n = 127} scale (omega arith));
           short = omega (arith, mul-assoc end scale 128);
@@ -165,7 +165,7 @@ module _ {s : List ℕ} {end i low scale least : ℕ} (B : Begun s end i low sca
 
 pub five : {s : List ℕ} {end i low scale least : ℕ} → Begun s end i low scale least → 5 ≤ i → Bad ≡ takeIn end s
 unfolding takeIn within32 numberIn
-five {s} {end} {i} {low} {scale} {least} B h = go (B .k) (B .left) (B .is)
+five {s} {end} {i} {low} {scale} {least} B h = go (B .k) (B .due) (B .is)
   where
     go : (k : ℕ) → k + i ≡ 5 → numberIn end 5 s ≡ after low scale least i (numberIn end k (drop i s)) → Bad ≡ within32 (numberIn end 5 s)
     go zero l e = rw e

@@ -32,15 +32,15 @@ at-most end (suc k) n = go (ltb n end) (at-most end k (n / 128))
     go true h = omega arith
     go false h = omega arith
 
--- what a turn of a loop that writes or counts does: one byte less is left
-pub record Turn (end k n : ℕ) : Type 0 where
-  pub left : ℕ
-  pub fits : n / 128 < room end left
-  pub step : bytesOf end (suc k) n ≡ (n % 128 + 128) ∷ bytesOf end (suc left) (n / 128)
+-- what a round of a loop that writes or counts does: one byte less is due
+pub record Round (end k n : ℕ) : Type 0 where
+  pub due : ℕ
+  pub fits : n / 128 < room end due
+  pub step : bytesOf end (suc k) n ≡ (n % 128 + 128) ∷ bytesOf end (suc due) (n / 128)
 
-pub turn : (end k n : ℕ) → end ≤ n → n < room end k → Turn end k n
-turn end zero n h r = absurd (omega arith)
-turn end (suc k) n h r = record { left = k; fits = omega arith; step = bytes-more end (suc k) n h }
+pub round : (end k n : ℕ) → end ≤ n → n < room end k → Round end k n
+round end zero n h r = absurd (omega arith)
+round end (suc k) n h r = record { due = k; fits = omega arith; step = bytes-more end (suc k) n h }
 
 -- how many of the bounds m, 128 m, .. (k of them) n has passed
 abbrev pub overs : ℕ → ℕ → ℕ → ℕ

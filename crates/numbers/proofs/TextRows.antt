@@ -1,4 +1,4 @@
--- Laws of the table and of `rest`: a first byte's row, a byte where some are to follow, and the turns of a loop over the bytes.
+-- Laws of the table and of `rest`: a first byte's row, a byte where some are to follow, and the rounds of a loop over the bytes.
 use Prim.Native.Nat.{ℕ, zero, suc, _+_, _-_, _≤_, _<_}
 use native.Mathlib.Omega.{arith}
 use native.Mathlib.Numerals.{add-one}
@@ -104,21 +104,21 @@ unfolding step
 step-above zero low high b z p = absurd (z refl)
 step-above (suc need) low high b z p = rw (among-above low high b p)
 
--- ---- a turn of a loop over the bytes
+-- ---- a round of a loop over the bytes
 
-turn : (need low high : ℕ) (s : List ℕ) (i : ℕ) → i < length s
+round : (need low high : ℕ) (s : List ℕ) (i : ℕ) → i < length s
     → rest need low high (drop i s) ≡ onward (step need low high (getD s i 0)) (λ n l h. rest n l h (drop (suc i) s))
 unfolding rest
-turn need low high s i h = rw (drop-cons s i 0 h)
+round need low high s i h = rw (drop-cons s i 0 h)
 
-pub turn-bad : (need low high : ℕ) (s : List ℕ) (i : ℕ) → i < length s → step need low high (getD s i 0) ≡ Bad
+pub round-bad : (need low high : ℕ) (s : List ℕ) (i : ℕ) → i < length s → step need low high (getD s i 0) ≡ Bad
     → rest need low high (drop i s) ≡ false
-turn-bad need low high s i h e = turn need low high s i h ∙ rw e
+round-bad need low high s i h e = round need low high s i h ∙ rw e
 
-pub turn-next : (need low high : ℕ) (s : List ℕ) (i n l k : ℕ) → i < length s → step need low high (getD s i 0) ≡ Next n l k
+pub round-next : (need low high : ℕ) (s : List ℕ) (i n l k : ℕ) → i < length s → step need low high (getD s i 0) ≡ Next n l k
     → rest need low high (drop i s) ≡ rest n l k (drop (i + 1) s)
-turn-next need low high s i n l k h e = turn need low high s i h ∙ rw (e, add-one)
+round-next need low high s i n l k h e = round need low high s i h ∙ rw (e, add-one)
 
-pub turns-end : (need low high : ℕ) (s : List ℕ) (i : ℕ) → length s ≤ i → rest need low high (drop i s) ≡ eqb need 0
+pub rounds-end : (need low high : ℕ) (s : List ℕ) (i : ℕ) → length s ≤ i → rest need low high (drop i s) ≡ eqb need 0
 unfolding rest
-turns-end need low high s i h = rw (drop-of-length-le s h)
+rounds-end need low high s i h = rw (drop-of-length-le s h)

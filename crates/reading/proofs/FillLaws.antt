@@ -1,4 +1,4 @@
--- Loops of straight reading that store the words of groups: what is left of the groups, stored where the loop stands, leaves what the
+-- Loops of straight reading that store the words of groups: what is due of the groups, stored where the loop stands, leaves what the
 -- whole leaves; the words of a group, stored one by one; and the words of a name whose bytes were seen to be right.
 use Prim.Native.Nat.{ℕ, suc, _+_, _-_, _*_, _≤_, _<_, _^_}
 use native.Mathlib.Nat.{suc-mul}
@@ -105,15 +105,15 @@ module _ (g : ℕ) (input : List ℕ) where
           record { t = t; m = m; is = e; within = w .0; ends = omega (arith, w .0, length-drop at input) }
       go (Bad w j) e b h = absurd (omega arith)
 
--- ---- groups that a loop stores: `left` are still to be stored, from `at` of the input on, at `to` of the row
+-- ---- groups that a loop stores: `due` are still to be stored, from `at` of the input on, at `to` of the row
 
-pub record Filling (g : ℕ) (input : List ℕ) (gs : List Field) (n from : ℕ) (first : List ℕ) (base left at to : ℕ) (row : List ℕ)
+pub record Filling (g : ℕ) (input : List ℕ) (gs : List Field) (n from : ℕ) (first : List ℕ) (base due at to : ℕ) (row : List ℕ)
     : Type 0 where
-  pub right : 0 < endOf (scans g input (repeated left gs) at 0)
+  pub right : 0 < endOf (scans g input (repeated due gs) at 0)
   pub inside : at ≤ length input
-  pub room : to + left * widths gs ≤ length row
+  pub room : to + due * widths gs ≤ length row
   pub same-size : length row ≡ length first
-  pub whole : (last : List ℕ) → last ≡ sets row to (fills g input (repeated left gs) at)
+  pub whole : (last : List ℕ) → last ≡ sets row to (fills g input (repeated due gs) at)
       → last ≡ sets first base (fills g input (repeated n gs) from)
 
 module _ {g : ℕ} {input : List ℕ} {gs : List Field} {n from : ℕ} {first : List ℕ} {base : ℕ} where
@@ -123,47 +123,47 @@ module _ {g : ℕ} {input : List ℕ} {gs : List Field} {n from : ℕ} {first : 
   filling-start h b r = record { right = r; inside = h; room = b; same-size = refl; whole = λ last w. w }
 
   -- past the last group
-  pub filling-end : {left at to : ℕ} {row : List ℕ} → Filling g input gs n from first base left at to row → left ≤ 0
+  pub filling-end : {due at to : ℕ} {row : List ℕ} → Filling g input gs n from first base due at to row → due ≤ 0
       → row ≡ sets first base (fills g input (repeated n gs) from)
   unfolding repeated makes
-  filling-end {left} {at} {to} {row} k h =
-      let e : 0 ≡ left = omega arith in
+  filling-end {due} {at} {to} {row} k h =
+      let e : 0 ≡ due = omega arith in
       k .whole row (ap (λ j. sets row to (fills g input (repeated j gs) at)) e)
 
   -- the same places under other names
-  pub filling-as : {left at to at′ to′ : ℕ} {row : List ℕ} → Filling g input gs n from first base left at to row → at ≡ at′ → to ≡ to′
-      → Filling g input gs n from first base left at′ to′ row
-  filling-as {left} {at} {to} {at′} {to′} {row} k ea et =
-      subst (λ j. Filling g input gs n from first base left at′ j row) et
-      (subst (λ j. Filling g input gs n from first base left j to row) ea k)
+  pub filling-as : {due at to at′ to′ : ℕ} {row : List ℕ} → Filling g input gs n from first base due at to row → at ≡ at′ → to ≡ to′
+      → Filling g input gs n from first base due at′ to′ row
+  filling-as {due} {at} {to} {at′} {to′} {row} k ea et =
+      subst (λ j. Filling g input gs n from first base due at′ j row) et
+      (subst (λ j. Filling g input gs n from first base due j to row) ea k)
 
 module _ {g : ℕ} {input : List ℕ} {f h : Field} {n from : ℕ} {first : List ℕ} {base : ℕ} where
-  -- the groups that are left, the first of them by its fields
-  left-right : {left at to : ℕ} {row : List ℕ} → Filling g input (f ∷ h ∷ []) n from first base left at to row → 0 < left
-      → 0 < endOf (scans g input (f ∷ (h ∷ repeated (left - 1) (f ∷ h ∷ []))) at 0)
+  -- the groups that are due, the first of them by its fields
+  left-right : {due at to : ℕ} {row : List ℕ} → Filling g input (f ∷ h ∷ []) n from first base due at to row → 0 < due
+      → 0 < endOf (scans g input (f ∷ (h ∷ repeated (due - 1) (f ∷ h ∷ []))) at 0)
   unfolding repeated
-  left-right {left} {at} k some =
-      let p : left ≡ suc (left - 1) = omega arith in
+  left-right {due} {at} k some =
+      let p : due ≡ suc (due - 1) = omega arith in
       subst (λ j. 0 < endOf (scans g input (repeated j (f ∷ h ∷ [])) at 0)) p (k .right)
 
   -- the first field of the next group is right
-  pub filling-first : {left at to : ℕ} {row : List ℕ} → Filling g input (f ∷ h ∷ []) n from first base left at to row → 0 < left
+  pub filling-first : {due at to : ℕ} {row : List ℕ} → Filling g input (f ∷ h ∷ []) n from first base due at to row → 0 < due
       → Stands g input f at
-  filling-first {left} {at} k some = right-first g input f (h ∷ repeated (left - 1) (f ∷ h ∷ [])) at (left-right k some) (k .inside)
+  filling-first {due} {at} k some = right-first g input f (h ∷ repeated (due - 1) (f ∷ h ∷ [])) at (left-right k some) (k .inside)
 
   -- and the second
-  pub filling-second : {left at to t m : ℕ} {row : List ℕ} → Filling g input (f ∷ h ∷ []) n from first base left at to row → 0 < left
+  pub filling-second : {due at to t m : ℕ} {row : List ℕ} → Filling g input (f ∷ h ∷ []) n from first base due at to row → 0 < due
       → scan 1 g f (drop at input) ≡ Fine t m → Stands g input h (at + t)
-  filling-second {left} {at} {to} {t} {m} k some e =
-      right-first g input h (repeated (left - 1) (f ∷ h ∷ [])) (at + t)
-      (right-step g input f (h ∷ repeated (left - 1) (f ∷ h ∷ [])) at t m (left-right k some) e) inside
+  filling-second {due} {at} {to} {t} {m} k some e =
+      right-first g input h (repeated (due - 1) (f ∷ h ∷ [])) (at + t)
+      (right-step g input f (h ∷ repeated (due - 1) (f ∷ h ∷ [])) at t m (left-right k some) e) inside
     where
       inside : at + t ≤ length input
       inside =
           let w = subst (λ l. Within l (length (drop at input)) (wide f)) e (scan-within 1 g f (drop at input)) in
           omega (arith, w .0, length-drop at input, k .inside)
 
-  -- past a group of two fields: its words are stored, and the rest is left
+  -- past a group of two fields: its words are stored, and the rest is due
   filling-on : (j : ℕ) {at to t m u v : ℕ} {row : List ℕ} → Filling g input (f ∷ h ∷ []) n from first base (suc j) at to row
       → scan 1 g f (drop at input) ≡ Fine t m → scan 1 g h (drop (at + t) input) ≡ Fine u v → at + t + u ≤ length input → (new : List ℕ)
       → new ≡ sets row to (fill g f at (drop at input) ++ fill g h (at + t) (drop (at + t) input))
@@ -201,13 +201,13 @@ module _ {g : ℕ} {input : List ℕ} {f h : Field} {n from : ℕ} {first : List
           append-assoc one two more ∙ ap (λ l. one ++ l) (sym (fills-step g input h rest (at + t) u v d))
           ∙ sym (fills-step g input f (h ∷ rest) at t m e)
 
-  pub filling-next : {left at to t m u k : ℕ} {row : List ℕ} → Filling g input (f ∷ h ∷ []) n from first base left at to row → 0 < left
+  pub filling-next : {due at to t m u k : ℕ} {row : List ℕ} → Filling g input (f ∷ h ∷ []) n from first base due at to row → 0 < due
       → scan 1 g f (drop at input) ≡ Fine t m → scan 1 g h (drop (at + t) input) ≡ Fine u k → (new : List ℕ)
       → new ≡ sets row to (fill g f at (drop at input) ++ fill g h (at + t) (drop (at + t) input))
-      → Filling g input (f ∷ h ∷ []) n from first base (left - 1) (at + t + u) (to + widths (f ∷ h ∷ [])) new
-  filling-next {left} {at} {to} {t} {m} {u} {k} {row} c some e d new w =
-      let p : left ≡ suc (left - 1) = omega arith in
-      filling-on (left - 1) (subst (λ j. Filling g input (f ∷ h ∷ []) n from first base j at to row) p c) e d inside new w
+      → Filling g input (f ∷ h ∷ []) n from first base (due - 1) (at + t + u) (to + widths (f ∷ h ∷ [])) new
+  filling-next {due} {at} {to} {t} {m} {u} {k} {row} c some e d new w =
+      let p : due ≡ suc (due - 1) = omega arith in
+      filling-on (due - 1) (subst (λ j. Filling g input (f ∷ h ∷ []) n from first base j at to row) p c) e d inside new w
     where
       inside : at + t + u ≤ length input
       inside =
@@ -215,10 +215,10 @@ module _ {g : ℕ} {input : List ℕ} {f h : Field} {n from : ℕ} {first : List
           omega (arith, x .0, length-drop (at + t) input, filling-second c some e .ends)
 
 -- past a group of one field
-pub filling-alone : {g : ℕ} {input : List ℕ} {f : Field} {n from : ℕ} {first : List ℕ} {base left at to t m : ℕ} {row : List ℕ}
-    → Filling g input (f ∷ field.Nothing ∷ []) n from first base left at to row → 0 < left → scan 1 g f (drop at input) ≡ Fine t m
+pub filling-alone : {g : ℕ} {input : List ℕ} {f : Field} {n from : ℕ} {first : List ℕ} {base due at to t m : ℕ} {row : List ℕ}
+    → Filling g input (f ∷ field.Nothing ∷ []) n from first base due at to row → 0 < due → scan 1 g f (drop at input) ≡ Fine t m
     → (new : List ℕ) → new ≡ sets row to (fill g f at (drop at input))
-    → Filling g input (f ∷ field.Nothing ∷ []) n from first base (left - 1) (at + t) (to + widths (f ∷ field.Nothing ∷ [])) new
+    → Filling g input (f ∷ field.Nothing ∷ []) n from first base (due - 1) (at + t) (to + widths (f ∷ field.Nothing ∷ [])) new
 unfolding scan fill
 filling-alone {g} {input} {f} {at = at} {to} {t} {m} {row} k some e new w =
     let here : at + t + 0 ≡ at + t = omega arith in

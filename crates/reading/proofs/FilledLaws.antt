@@ -41,10 +41,10 @@ optional-length present bs = cond-length (eqb (byte bs 0) present) (fillValue (d
 
 slot-length : (k at : ℕ) (bs : List ℕ) (l : Leaf) → length (fillSlot k at bs l) ≡ 3
 unfolding fillSlot fillName
-slot-length k at bs (Fine from left) =
+slot-length k at bs (Fine from due) =
     let none : List ℕ = 0 ∷ 0 ∷ 0 ∷ [] in
     let some : List ℕ = 1 ∷ fillName at bs (from + 1) in
-    cond-length (eqb left 0) none (cond (eqb (byte bs from) k) some none) 3 refl (cond-length (eqb (byte bs from) k) some none 3 refl refl)
+    cond-length (eqb due 0) none (cond (eqb (byte bs from) k) some none) 3 refl (cond-length (eqb (byte bs from) k) some none 3 refl refl)
 slot-length k at bs (Bad w j) = refl
 
 extern-length : (g at : ℕ) (bs : List ℕ) → length (fillExtern g at bs) ≡ 11

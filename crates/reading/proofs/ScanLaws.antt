@@ -68,7 +68,7 @@ module _ {n : ℕ} {M : ℕ → Type 0} where
       cond-near (eqb b 0x64) (asked-near g 2 p)
       (cond-near (ltb b 0x73) (bad _ 0 (omega arith)) (cond-near (ltb b 0x80) p (bad _ 0 (omega arith))))
 
-  onward-near : {N : ℕ → Type 0} {l : Leaf} {k : ℕ → ℕ → Leaf} → Near n M l → ((at left : ℕ) → at ≤ n → Near n N (k at left))
+  onward-near : {N : ℕ → Type 0} {l : Leaf} {k : ℕ → ℕ → Leaf} → Near n M l → ((at due : ℕ) → at ≤ n → Near n N (k at due))
       → Near n N (onward l k)
   onward-near (fine t m h e) f = f t m h
   onward-near (bad y j h) f = bad y j h
@@ -170,8 +170,8 @@ choice-near bs =
 
 -- ---- extern names: each step ends inside the input
 
-pub string-near : (bs : List ℕ) (at left : ℕ) → at ≤ length bs → Near (length bs) Any (stringAt bs at left)
-string-near bs at left h = onward-near (past-near bs at h (name-near (drop at bs))) (λ next m g. fine next left g tt)
+pub string-near : (bs : List ℕ) (at due : ℕ) → at ≤ length bs → Near (length bs) Any (stringAt bs at due)
+string-near bs at due h = onward-near (past-near bs at h (name-near (drop at bs))) (λ next m g. fine next due g tt)
 
 count-near : (bs : List ℕ) (at : ℕ) → at ≤ length bs → Near (length bs) Any (countAt bs at)
 unfolding countAt
@@ -184,21 +184,21 @@ count-near bs at h = go (takeUnsigned (drop at bs)) refl
     go taken.Cut e = cut-near bs
     go taken.Bad e = bad _ at h
 
-slot-near : (k : ℕ) (bs : List ℕ) (at left : ℕ) → at ≤ length bs → Near (length bs) Any (slotScan k bs at left)
+slot-near : (k : ℕ) (bs : List ℕ) (at due : ℕ) → at ≤ length bs → Near (length bs) Any (slotScan k bs at due)
 unfolding slotScan
-slot-near k bs at left h =
-    cond-near (eqb left 0) (fine at 0 h tt)
-    (there-near bs at (λ g. cond-near (eqb (byte bs at) k) (string-near bs (at + 1) (left - 1) (omega arith)) (fine at left h tt)))
+slot-near k bs at due h =
+    cond-near (eqb due 0) (fine at 0 h tt)
+    (there-near bs at (λ g. cond-near (eqb (byte bs at) k) (string-near bs (at + 1) (due - 1) (omega arith)) (fine at due h tt)))
 
-end-near : (bs : List ℕ) (at left : ℕ) → at ≤ length bs → Near (length bs) (Words 11) (endScan bs at left)
+end-near : (bs : List ℕ) (at due : ℕ) → at ≤ length bs → Near (length bs) (Words 11) (endScan bs at due)
 unfolding endScan
-end-near bs at left h = cond-near (eqb left 0) (fine at 11 h refl) (there-near bs at (λ g. bad _ at h))
+end-near bs at due h = cond-near (eqb due 0) (fine at 11 h refl) (there-near bs at (λ g. bad _ at h))
 
 pub head-near : (g : ℕ) (bs : List ℕ) → Near (length bs) Any (headScan g bs)
 unfolding headScan
 head-near g bs =
     either-near bs 0x00 0x02 (λ h. string-near bs 1 0 h)
-    (λ h. asked-near g 3 (onward-near (string-near bs 1 0 h) (λ at left l. count-near bs at l)))
+    (λ h. asked-near g 3 (onward-near (string-near bs 1 0 h) (λ at due l. count-near bs at l)))
 
 pub first-near : (g : ℕ) (bs : List ℕ) → Near (length bs) Any (firstScan g bs)
 unfolding firstScan

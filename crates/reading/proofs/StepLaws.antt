@@ -188,12 +188,12 @@ choice-some bs =
     (cond-some (indexed (byte bs 0)) (past-some 1 (omega arith) (scanIndex 2 (drop 1 bs))) (fine 1 2 (omega arith))) (bad _ _))
 
 -- extern names: each step hands on a place past the first byte
-onward-some : {l : Leaf} {k : ℕ → ℕ → Leaf} → Some l → ((at left : ℕ) → 0 < at → Some (k at left)) → Some (onward l k)
+onward-some : {l : Leaf} {k : ℕ → ℕ → Leaf} → Some l → ((at due : ℕ) → 0 < at → Some (k at due)) → Some (onward l k)
 onward-some (fine t m h) f = f t m h
 onward-some (bad w j) f = bad w j
 
-string-some : (bs : List ℕ) (at left : ℕ) → 0 < at → Some (stringAt bs at left)
-string-some bs at left h = onward-some (past-some at h (scanName (drop at bs))) (λ next m k. fine next left k)
+string-some : (bs : List ℕ) (at due : ℕ) → 0 < at → Some (stringAt bs at due)
+string-some bs at due h = onward-some (past-some at h (scanName (drop at bs))) (λ next m k. fine next due k)
 
 count-some : (bs : List ℕ) (at : ℕ) → 0 < at → Some (countAt bs at)
 unfolding countAt
@@ -204,22 +204,22 @@ count-some bs at h = go (takeUnsigned (drop at bs))
     go taken.Cut = bad _ _
     go taken.Bad = bad _ _
 
-slot-some : (k : ℕ) (bs : List ℕ) (at left : ℕ) → 0 < at → Some (slotScan k bs at left)
+slot-some : (k : ℕ) (bs : List ℕ) (at due : ℕ) → 0 < at → Some (slotScan k bs at due)
 unfolding slotScan
-slot-some k bs at left h =
-    cond-some (eqb left 0) (fine at 0 h)
-    (there-some bs at (cond-some (eqb (byte bs at) k) (string-some bs (at + 1) (left - 1) (omega arith)) (fine at left h)))
+slot-some k bs at due h =
+    cond-some (eqb due 0) (fine at 0 h)
+    (there-some bs at (cond-some (eqb (byte bs at) k) (string-some bs (at + 1) (due - 1) (omega arith)) (fine at due h)))
 
-last-some : (bs : List ℕ) (at left : ℕ) → 0 < at → Some (endScan bs at left)
+last-some : (bs : List ℕ) (at due : ℕ) → 0 < at → Some (endScan bs at due)
 unfolding endScan
-last-some bs at left h = cond-some (eqb left 0) (fine at 11 h) (there-some bs at (bad _ _))
+last-some bs at due h = cond-some (eqb due 0) (fine at 11 h) (there-some bs at (bad _ _))
 
 extern-some : (g : ℕ) (bs : List ℕ) → Some (scanExtern g bs)
 unfolding scanExtern secondScan firstScan headScan
 extern-some g bs =
     let begin : Some (headScan g bs) =
     either-some bs 0x00 0x02 (string-some bs 1 0 (omega arith))
-    (asked-some g 3 0 (onward-some (string-some bs 1 0 (omega arith)) (λ at left h. count-some bs at h)))
+    (asked-some g 3 0 (onward-some (string-some bs 1 0 (omega arith)) (λ at due h. count-some bs at h)))
     in
     onward-some (onward-some (onward-some (onward-some begin (slot-some 0x00 bs)) (slot-some 0x01 bs)) (slot-some 0x02 bs)) (last-some bs)
 
@@ -563,65 +563,65 @@ module _ (g : ℕ) (input : List ℕ) where
 -- ---- a loop over groups that counts down
 
 -- groups are one, and the rest
-pub repeated-more : (left : ℕ) (gs : List Field) → 0 < left → repeated left gs ≡ gs ++ repeated (left - 1) gs
+pub repeated-more : (due : ℕ) (gs : List Field) → 0 < due → repeated due gs ≡ gs ++ repeated (due - 1) gs
 unfolding repeated
 repeated-more zero gs h = absurd (omega arith)
 repeated-more (suc n) gs h =
     let z : n ≡ suc n - 1 = omega arith in
     ap (λ k. gs ++ repeated k gs) z
 
--- from `at` on, `left` groups end where the n groups from `from` on do
-pub record Going (g : ℕ) (input : List ℕ) (gs : List Field) (n from left at : ℕ) : Type 0 where
-  pub same : endOf (scans g input (repeated left gs) at 0) ≡ endOf (scans g input (repeated n gs) from 0)
+-- from `at` on, `due` groups end where the n groups from `from` on do
+pub record Going (g : ℕ) (input : List ℕ) (gs : List Field) (n from due at : ℕ) : Type 0 where
+  pub same : endOf (scans g input (repeated due gs) at 0) ≡ endOf (scans g input (repeated n gs) from 0)
   pub place : 0 < at
   pub inside : at ≤ length input
 
 pub going-start : {g : ℕ} {input : List ℕ} {gs : List Field} {n from : ℕ} → 0 < from → from ≤ length input → Going g input gs n from n from
 going-start h k = record { same = refl; place = h; inside = k }
 
--- no group is left
-pub going-end : {g : ℕ} {input : List ℕ} {gs : List Field} {n from left at : ℕ} → Going g input gs n from left at → left ≤ 0
+-- no group is due
+pub going-end : {g : ℕ} {input : List ℕ} {gs : List Field} {n from due at : ℕ} → Going g input gs n from due at → due ≤ 0
     → at ≡ endOf (scans g input (repeated n gs) from 0)
 unfolding repeated
-going-end {g} {input} {gs} {n} {from} {left} {at} go h =
-    let z : left ≡ 0 = omega arith in
+going-end {g} {input} {gs} {n} {from} {due} {at} go h =
+    let z : due ≡ 0 = omega arith in
     sym (end-done g input at 0) ∙ ap (λ k. endOf (scans g input (repeated k gs) at 0)) (sym z) ∙ go .same
 
-module _ {g : ℕ} {input : List ℕ} {f h : Field} {n from left at : ℕ} (o : Going g input (f ∷ h ∷ []) n from left at) (some : 0 < left) where
+module _ {g : ℕ} {input : List ℕ} {f h : Field} {n from due at : ℕ} (o : Going g input (f ∷ h ∷ []) n from due at) (some : 0 < due) where
   -- the next group, and what follows it
-  opened : endOf (scans g input (f ∷ h ∷ repeated (left - 1) (f ∷ h ∷ [])) at 0) ≡ endOf (scans g input (repeated n (f ∷ h ∷ [])) from 0)
-  opened = ap (λ fs. endOf (scans g input fs at 0)) (sym (repeated-more left (f ∷ h ∷ []) some)) ∙ o .same
+  opened : endOf (scans g input (f ∷ h ∷ repeated (due - 1) (f ∷ h ∷ [])) at 0) ≡ endOf (scans g input (repeated n (f ∷ h ∷ [])) from 0)
+  opened = ap (λ fs. endOf (scans g input fs at 0)) (sym (repeated-more due (f ∷ h ∷ []) some)) ∙ o .same
 
   -- its first field is not right
   pub going-first : Wrong (scan 1 g f (drop at input)) → 0 ≡ endOf (scans g input (repeated n (f ∷ h ∷ [])) from 0)
-  going-first w = sym (end-bad g input f (h ∷ repeated (left - 1) (f ∷ h ∷ [])) at 0 w) ∙ opened
+  going-first w = sym (end-bad g input f (h ∷ repeated (due - 1) (f ∷ h ∷ [])) at 0 w) ∙ opened
 
   module _ {t m : ℕ} (e : scan 1 g f (drop at input) ≡ Fine t m) where
-    second : endOf (scans g input (h ∷ repeated (left - 1) (f ∷ h ∷ [])) (at + t) 0)
+    second : endOf (scans g input (h ∷ repeated (due - 1) (f ∷ h ∷ [])) (at + t) 0)
         ≡ endOf (scans g input (repeated n (f ∷ h ∷ [])) from 0)
-    second = sym (end-step g input f (h ∷ repeated (left - 1) (f ∷ h ∷ [])) at 0 t m e) ∙ opened
+    second = sym (end-step g input f (h ∷ repeated (due - 1) (f ∷ h ∷ [])) at 0 t m e) ∙ opened
 
     -- its second is not
     pub going-second : Wrong (scan 1 g h (drop (at + t) input)) → 0 ≡ endOf (scans g input (repeated n (f ∷ h ∷ [])) from 0)
-    going-second w = sym (end-bad g input h (repeated (left - 1) (f ∷ h ∷ [])) (at + t) 0 w) ∙ second
+    going-second w = sym (end-bad g input h (repeated (due - 1) (f ∷ h ∷ [])) (at + t) 0 w) ∙ second
 
     -- both are
-    pub going-next : {u k : ℕ} → scan 1 g h (drop (at + t) input) ≡ Fine u k → Going g input (f ∷ h ∷ []) n from (left - 1) (at + t + u)
+    pub going-next : {u k : ℕ} → scan 1 g h (drop (at + t) input) ≡ Fine u k → Going g input (f ∷ h ∷ []) n from (due - 1) (at + t + u)
     going-next {u} {k} d =
         let p : t ≤ length (drop at input) = one-takes 1 g f (drop at input) (scan 1 g f (drop at input)) refl t m e .0 in
         let q : u ≤ length (drop (at + t) input) =
         one-takes 1 g h (drop (at + t) input) (scan 1 g h (drop (at + t) input)) refl u k d .0
         in
         record {
-          same = sym (end-step g input h (repeated (left - 1) (f ∷ h ∷ [])) (at + t) 0 u k d) ∙ second;
+          same = sym (end-step g input h (repeated (due - 1) (f ∷ h ∷ [])) (at + t) 0 u k d) ∙ second;
           place = omega (arith, o .place);
           inside = omega (arith, o .inside, length-drop at input, length-drop (at + t) input);
         }
 
 -- a group of one field
-pub going-alone : {g : ℕ} {input : List ℕ} {f : Field} {n from left at : ℕ} → Going g input (f ∷ field.Nothing ∷ []) n from left at
-    → 0 < left → {t m : ℕ} → scan 1 g f (drop at input) ≡ Fine t m → Going g input (f ∷ field.Nothing ∷ []) n from (left - 1) (at + t)
+pub going-alone : {g : ℕ} {input : List ℕ} {f : Field} {n from due at : ℕ} → Going g input (f ∷ field.Nothing ∷ []) n from due at
+    → 0 < due → {t m : ℕ} → scan 1 g f (drop at input) ≡ Fine t m → Going g input (f ∷ field.Nothing ∷ []) n from (due - 1) (at + t)
 unfolding scan
-going-alone {g} {input} {f} {n} {from} {left} {at} go some {t} {m} e =
+going-alone {g} {input} {f} {n} {from} {due} {at} go some {t} {m} e =
     let d : scan 1 g field.Nothing (drop (at + t) input) ≡ Fine 0 0 = refl in
-    subst (λ a. Going g input (f ∷ field.Nothing ∷ []) n from (left - 1) a) (add-zero (at + t)) (going-next go some e d)
+    subst (λ a. Going g input (f ∷ field.Nothing ∷ []) n from (due - 1) a) (add-zero (at + t)) (going-next go some e d)

@@ -219,13 +219,13 @@ fn scan_choice(bs: &[u8]) -> Leaf
     Leaf::Bad(Refusal::Code, 0)
 }
 
-// A string at `at` of an extern name, with `left` handed on.
-fn string_at(bs: &[u8], at: usize, left: usize) -> Leaf
+// A string at `at` of an extern name, with `due` handed on.
+fn string_at(bs: &[u8], at: usize, due: usize) -> Leaf
     requires { ⌜ (length (now bs) ≤ inputBytes) × (at ≤ 2 ^ 31) ⌝ }
-    ensures { λ r. ⌜ r ≡ stringAt (now (bs .entry)) at left ⌝ }
+    ensures { λ r. ⌜ r ≡ stringAt (now (bs .entry)) at due ⌝ }
 {
     match past_by(at, scan_name(rest_at(bs, at))) {
-        Leaf::Fine(next, _) => Leaf::Fine(next, left),
+        Leaf::Fine(next, _) => Leaf::Fine(next, due),
         Leaf::Bad(why, j) => Leaf::Bad(why, j),
     }
 }
@@ -250,27 +250,27 @@ fn count_at(bs: &[u8], at: usize) -> Leaf
     }
 }
 
-// Option k, with `left` options still to come.
-fn slot_scan(k: u8, bs: &[u8], at: usize, left: usize) -> Leaf
+// Option k, with `due` options still to come.
+fn slot_scan(k: u8, bs: &[u8], at: usize, due: usize) -> Leaf
     requires { ⌜ (length (now bs) ≤ inputBytes) × (at < 2 ^ 31) ⌝ }
-    ensures { λ r. ⌜ r ≡ slotScan k (now (bs .entry)) at left ⌝ }
+    ensures { λ r. ⌜ r ≡ slotScan k (now (bs .entry)) at due ⌝ }
 {
-    if left == 0 {
+    if due == 0 {
         return Leaf::Fine(at, 0);
     }
     if bs.len() <= at {
         return cut_short(bs);
     }
     if byte_at(bs, at) == k {
-        return string_at(bs, at + 1, left - 1);
+        return string_at(bs, at + 1, due - 1);
     }
-    Leaf::Fine(at, left)
+    Leaf::Fine(at, due)
 }
 
-fn end_scan(bs: &[u8], at: usize, left: usize) -> Leaf
-    ensures { λ r. ⌜ r ≡ endScan (now (bs .entry)) at left ⌝ }
+fn end_scan(bs: &[u8], at: usize, due: usize) -> Leaf
+    ensures { λ r. ⌜ r ≡ endScan (now (bs .entry)) at due ⌝ }
 {
-    if left == 0 {
+    if due == 0 {
         return Leaf::Fine(at, 11);
     }
     if bs.len() <= at {
@@ -282,7 +282,7 @@ fn end_scan(bs: &[u8], at: usize, left: usize) -> Leaf
 // The count behind a name.
 fn and_count(so: Leaf, bs: &[u8]) -> Leaf
     requires { ⌜ (length (now bs) ≤ inputBytes) × Inside so (2 ^ 31) ⌝ }
-    ensures { λ r. ⌜ r ≡ onward so (λ at left. countAt (now (bs .entry)) at) ⌝ }
+    ensures { λ r. ⌜ r ≡ onward so (λ at due. countAt (now (bs .entry)) at) ⌝ }
 {
     match so {
         Leaf::Fine(at, _) => count_at(bs, at),
@@ -314,7 +314,7 @@ fn and_slot(so: Leaf, k: u8, bs: &[u8]) -> Leaf
     ensures { λ r. ⌜ r ≡ onward so (slotScan k (now (bs .entry))) ⌝ }
 {
     match so {
-        Leaf::Fine(at, left) => slot_scan(k, bs, at, left),
+        Leaf::Fine(at, due) => slot_scan(k, bs, at, due),
         Leaf::Bad(why, j) => Leaf::Bad(why, j),
     }
 }
@@ -338,7 +338,7 @@ fn scan_extern(grade: u32, bs: &[u8]) -> Leaf
     ensures { λ r. ⌜ r ≡ scanExtern grade (now (bs .entry)) ⌝ }
 {
     match and_slot(second_scan(grade, bs), 0x02, bs) {
-        Leaf::Fine(at, left) => end_scan(bs, at, left),
+        Leaf::Fine(at, due) => end_scan(bs, at, due),
         Leaf::Bad(why, j) => Leaf::Bad(why, j),
     }
 }

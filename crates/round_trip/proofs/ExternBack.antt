@@ -85,7 +85,7 @@ module _ (xs : List ℕ) where
 
   stands : (at y : ℕ) (ys : List ℕ) → drop at xs ≡ y ∷ ys → Stands at y ys
   stands at y ys e =
-      let left : length xs - at ≡ suc (length ys) = sym (length-drop at xs) ∙ ap length e in
+      let due : length xs - at ≡ suc (length ys) = sym (length-drop at xs) ∙ ap length e in
       record {
         here = ap (λ i. getD xs i 0) (sym (add-zero at)) ∙ sym (getD-drop at xs 0 0) ∙ ap (λ l. getD l 0 0) e;
         inside = omega arith;
@@ -134,65 +134,65 @@ slotOf pool k w start size = cond (eqb w 0) [] (k ∷ name pool start size)
 
 -- what stands behind option k: no more options, or a byte that is not k
 abbrev Ahead : ℕ → ℕ → List ℕ → Type 0
-Ahead k left r = (left ≡ 0) ⊎ ((y : ℕ) × (ys : List ℕ) × (r ≡ y ∷ ys) × (y ≡ k → ⊥))
+Ahead k due r = (due ≡ 0) ⊎ ((y : ℕ) × (ys : List ℕ) × (r ≡ y ∷ ys) × (y ≡ k → ⊥))
 
 none-more : (n : ℕ) → 0 + n ≡ n
 none-more n = omega arith
 
-ahead : {pool : List ℕ} {w s n : ℕ} → Slot pool w s n → (k j left : ℕ) (r : List ℕ) → k < j → Ahead k left r
-    → Ahead k (flag w + left) (slotOf pool j w s n ++ r)
+ahead : {pool : List ℕ} {w s n : ℕ} → Slot pool w s n → (k j due : ℕ) (r : List ℕ) → k < j → Ahead k due r
+    → Ahead k (flag w + due) (slotOf pool j w s n ++ r)
 unfolding flag
-ahead absent k j left r h a = subst (λ p. Ahead k p r) (sym (none-more left)) a
-ahead {pool} {w} {s} {n} (present p) k j left r h a = inr (j, name pool s n ++ r, refl, λ z. omega arith)
+ahead absent k j due r h a = subst (λ p. Ahead k p r) (sym (none-more due)) a
+ahead {pool} {w} {s} {n} (present p) k j due r h a = inr (j, name pool s n ++ r, refl, λ z. omega arith)
 
 -- option k is read as it was written, at `at` of xs, which stands at b of the input
-record SlotBack (pool xs input : List ℕ) (b k w s n at left : ℕ) (r : List ℕ) : Type 0 where
-  pub scans : slotScan k xs at (flag w + left) ≡ Fine (at + length (slotOf pool k w s n)) left
+record SlotBack (pool xs input : List ℕ) (b k w s n at due : ℕ) (r : List ℕ) : Type 0 where
+  pub scans : slotScan k xs at (flag w + due) ≡ Fine (at + length (slotOf pool k w s n)) due
   pub after : drop (at + length (slotOf pool k w s n)) xs ≡ r
   pub start : ℕ
-  pub fills : fillSlot k b xs (Fine at (flag w + left)) ≡ w ∷ start ∷ n ∷ []
+  pub fills : fillSlot k b xs (Fine at (flag w + due)) ≡ w ∷ start ∷ n ∷ []
   pub says : chars input start n ≡ chars pool s n
 
 module _ (pool xs input : List ℕ) (b : ℕ) (inp : drop b input ≡ xs) where
-  slot-back : {w s n : ℕ} → Slot pool w s n → (k at left : ℕ) (r : List ℕ) → drop at xs ≡ slotOf pool k w s n ++ r → Ahead k left r
-      → SlotBack pool xs input b k w s n at left r
+  slot-back : {w s n : ℕ} → Slot pool w s n → (k at due : ℕ) (r : List ℕ) → drop at xs ≡ slotOf pool k w s n ++ r → Ahead k due r
+      → SlotBack pool xs input b k w s n at due r
   unfolding slotScan fillSlot flag
-  slot-back absent k at left r e a = go a
+  slot-back absent k at due r e a = go a
     where
-      stays : slotScan k xs at left ≡ Fine at left → fillSlot k b xs (Fine at left) ≡ 0 ∷ 0 ∷ 0 ∷ [] → SlotBack pool xs input b k 0 0 0 at left r
+      stays : slotScan k xs at due ≡ Fine at due → fillSlot k b xs (Fine at due) ≡ 0 ∷ 0 ∷ 0 ∷ [] → SlotBack pool xs input b k 0 0 0 at due r
       stays s g =
           record {
-            scans = ap (λ p. slotScan k xs at p) (none-more left) ∙ s ∙ ap (λ i. Fine i left) (sym (add-zero at));
+            scans = ap (λ p. slotScan k xs at p) (none-more due) ∙ s ∙ ap (λ i. Fine i due) (sym (add-zero at));
             after = ap (λ i. drop i xs) (add-zero at) ∙ e;
             start = 0;
-            fills = ap (λ p. fillSlot k b xs (Fine at p)) (none-more left) ∙ g;
+            fills = ap (λ p. fillSlot k b xs (Fine at p)) (none-more due) ∙ g;
             says = refl;
           }
 
-      zeros : left ≡ 0 → SlotBack pool xs input b k 0 0 0 at left r
+      zeros : due ≡ 0 → SlotBack pool xs input b k 0 0 0 at due r
       zeros h = stays (simp h) (simp h)
 
-      go : Ahead k left r → SlotBack pool xs input b k 0 0 0 at left r
+      go : Ahead k due r → SlotBack pool xs input b k 0 0 0 at due r
       go (inl h) = zeros h
-      go (inr h) = test (eqb left 0) refl
+      go (inr h) = test (eqb due 0) refl
         where
-          test : (x : Bool) → eqb left 0 ≡ x → SlotBack pool xs input b k 0 0 0 at left r
+          test : (x : Bool) → eqb due 0 ≡ x → SlotBack pool xs input b k 0 0 0 at due r
           test true q = zeros (eqb-true _ _ q)
           test false q =
               let c = stands xs at (h .0) (h .1) (e ∙ h .2) in
               let d : eqb (byte xs at) k ≡ false = ne-eqb _ _ (λ z. h .3 (sym (c .here) ∙ z)) in
               stays (simp (q, lt-leb _ _ (c .inside), d)) (simp (q, d))
-  slot-back {w} {s} {n} (present p) k at left r e a =
+  slot-back {w} {s} {n} (present p) k at due r e a =
       let nm = name pool s n in
       let c = stands xs at k (nm ++ r) e in
       let back = name-back p input xs r b (at + 1) inp (c .rest) in
-      let some : 1 + left ≡ 0 → ⊥ = λ z. omega arith in
+      let some : 1 + due ≡ 0 → ⊥ = λ z. omega arith in
       let here : eqb (byte xs at) k ≡ true = eq-eqb _ _ (c .here) in
       let place : at + 1 + length nm ≡ at + suc (length nm) = omega arith in
-      let fewer : 1 + left - 1 ≡ left = omega arith in
+      let fewer : 1 + due - 1 ≡ due = omega arith in
       record {
         scans = simp (ne-eqb _ _ some, lt-leb _ _ (c .inside), here)
-            (ap (λ l. onward (past (at + 1) l) (λ next m. Fine next (1 + left - 1))) (back .scans) ∙ (λ i. Fine (place i) (fewer i)));
+            (ap (λ l. onward (past (at + 1) l) (λ next m. Fine next (1 + due - 1))) (back .scans) ∙ (λ i. Fine (place i) (fewer i)));
         after = ap (λ i. drop i xs) (sym place) ∙ behind xs (at + 1) (length nm) nm r (c .rest) refl;
         start = b + (at + 1 + length (unsigned n));
         fills = simp (ne-eqb _ _ some, here) (ap (λ l. 1 ∷ l) (back .fills));
@@ -248,13 +248,13 @@ module _ {pool : List ℕ} {s size : ℕ} (p : NameRight pool s size) (input xs 
           simp (k .1, k .0) (string (k .2) ∙ (λ i. Fine (one i) (z i)))
       go false q w =
           let k = lead-name 0x02 (n ∷ r) (w ∙ ap (λ l. 0x02 ∷ l) (append-assoc nm (n ∷ []) r)) in
-          simp (k .1, k .0) (newer (ltb g 3) (ap (λ l. onward l (λ at left. countAt xs at)) (string (k .2)) ∙ count (k .3)))
+          simp (k .1, k .0) (newer (ltb g 3) (ap (λ l. onward l (λ at due. countAt xs at)) (string (k .2)) ∙ count (k .3)))
         where
           last : ℕ
           last = suc (length (nm ++ n ∷ []))
 
-          newer : (t : Bool) → onward (stringAt xs 1 0) (λ at left. countAt xs at) ≡ Fine last n
-              → cond t (Bad Newer 0) (onward (stringAt xs 1 0) (λ at left. countAt xs at)) ≡ answer (cond t (At 0) Clear) last n
+          newer : (t : Bool) → onward (stringAt xs 1 0) (λ at due. countAt xs at) ≡ Fine last n
+              → cond t (Bad Newer 0) (onward (stringAt xs 1 0) (λ at due. countAt xs at)) ≡ answer (cond t (At 0) Clear) last n
           newer true h = refl
           newer false h = h
 
@@ -271,7 +271,7 @@ module _ {pool : List ℕ} {s size : ℕ} (p : NameRight pool s size) (input xs 
 slot-long : (k at : ℕ) (bs : List ℕ) (l : Leaf) → length (fillSlot k at bs l) ≡ 3
 unfolding fillSlot fillName
 slot-long k at bs (Bad w j) = refl
-slot-long k at bs (Fine from left) = go (eqb left 0) (eqb (byte bs from) k)
+slot-long k at bs (Fine from due) = go (eqb due 0) (eqb (byte bs from) k)
   where
     go : (x y : Bool) → length (cond x (0 ∷ 0 ∷ 0 ∷ []) (cond y (1 ∷ fillName at bs (from + 1)) (0 ∷ 0 ∷ 0 ∷ []))) ≡ 3
     go true y = refl

@@ -204,39 +204,39 @@ module _ (e : ℕ) (input xs : List ℕ) (b : ℕ) (inp : drop b input ≡ xs) (
 
   -- ---- an option
 
-  pub record SlotSeen (k at left a′ left′ : ℕ) : Type 0 where
+  pub record SlotSeen (k at due a′ due′ : ℕ) : Type 0 where
     pub w : ℕ
     pub start : ℕ
     pub size : ℕ
     pub right : Slot (take e input) w start size
-    pub fills : fillSlot k b xs (Fine at left) ≡ w ∷ start ∷ size ∷ []
-    pub count : left ≡ flag w + left′
+    pub fills : fillSlot k b xs (Fine at due) ≡ w ∷ start ∷ size ∷ []
+    pub count : due ≡ flag w + due′
     pub again : slotOf (take e input) k w start size ++ drop a′ xs ≡ drop at xs
     pub says : chars (take e input) start size ≡ chars input start size
 
   -- an option goes on, and stays inside
-  slot-grows : (k at left a′ left′ : ℕ) → slotScan k xs at left ≡ Fine a′ left′ → (at ≤ a′) × (at ≤ length xs → a′ ≤ length xs)
+  slot-grows : (k at due a′ due′ : ℕ) → slotScan k xs at due ≡ Fine a′ due′ → (at ≤ a′) × (at ≤ length xs → a′ ≤ length xs)
   unfolding slotScan
-  slot-grows k at left a′ left′ s = go (eqb left 0) s
+  slot-grows k at due a′ due′ s = go (eqb due 0) s
     where
-      there-is : (z : Bool) → cond z (stringAt xs (at + 1) (left - 1)) (Fine at left) ≡ Fine a′ left′ → (at ≤ a′) × (at ≤ length xs → a′ ≤ length xs)
+      there-is : (z : Bool) → cond z (stringAt xs (at + 1) (due - 1)) (Fine at due) ≡ Fine a′ due′ → (at ≤ a′) × (at ≤ length xs → a′ ≤ length xs)
       there-is true s =
-          let k = string-seen (at + 1) (left - 1) a′ left′ s .0 in
+          let k = string-seen (at + 1) (due - 1) a′ due′ s .0 in
           let p = k .place in
           (omega arith, λ h. k .inside)
       there-is false s = let p : at ≡ a′ = cc in (omega arith, λ h. omega arith)
 
       go : (x : Bool)
-          → cond x (Fine at 0) (there xs at (cond (eqb (byte xs at) k) (stringAt xs (at + 1) (left - 1)) (Fine at left))) ≡ Fine a′ left′
+          → cond x (Fine at 0) (there xs at (cond (eqb (byte xs at) k) (stringAt xs (at + 1) (due - 1)) (Fine at due))) ≡ Fine a′ due′
           → (at ≤ a′) × (at ≤ length xs → a′ ≤ length xs)
       go true s = let p : at ≡ a′ = cc in (omega arith, λ h. omega arith)
-      go false s = there-is (eqb (byte xs at) k) (there-fine xs at _ a′ left′ s .1)
+      go false s = there-is (eqb (byte xs at) k) (there-fine xs at _ a′ due′ s .1)
 
-  slot-seen : (k at left a′ left′ : ℕ) → slotScan k xs at left ≡ Fine a′ left′ → b + a′ ≤ e → SlotSeen k at left a′ left′
+  slot-seen : (k at due a′ due′ : ℕ) → slotScan k xs at due ≡ Fine a′ due′ → b + a′ ≤ e → SlotSeen k at due a′ due′
   unfolding slotScan fillSlot flag
-  slot-seen k at left a′ left′ s h = go (eqb left 0) refl s
+  slot-seen k at due a′ due′ s h = go (eqb due 0) refl s
     where
-      stays : a′ ≡ at → left′ ≡ left → fillSlot k b xs (Fine at left) ≡ 0 ∷ 0 ∷ 0 ∷ [] → SlotSeen k at left a′ left′
+      stays : a′ ≡ at → due′ ≡ due → fillSlot k b xs (Fine at due) ≡ 0 ∷ 0 ∷ 0 ∷ [] → SlotSeen k at due a′ due′
       stays p q g =
           record {
             w = 0;
@@ -249,12 +249,12 @@ module _ (e : ℕ) (input xs : List ℕ) (b : ℕ) (inp : drop b input ≡ xs) (
             says = refl;
           }
 
-      there-is : (z : Bool) → eqb (byte xs at) k ≡ z → eqb left 0 ≡ false → at < length xs
-          → cond z (stringAt xs (at + 1) (left - 1)) (Fine at left) ≡ Fine a′ left′ → SlotSeen k at left a′ left′
+      there-is : (z : Bool) → eqb (byte xs at) k ≡ z → eqb due 0 ≡ false → at < length xs
+          → cond z (stringAt xs (at + 1) (due - 1)) (Fine at due) ≡ Fine a′ due′ → SlotSeen k at due a′ due′
       there-is true hz hx i s =
-          let y = string-seen (at + 1) (left - 1) a′ left′ s in
+          let y = string-seen (at + 1) (due - 1) a′ due′ s in
           let v = string-name (at + 1) a′ (y .0) h in
-          let nz = eqb-false left 0 hx in
+          let nz = eqb-false due 0 hx in
           let el = y .1 in
           record {
             w = 1;
@@ -268,15 +268,15 @@ module _ (e : ℕ) (input xs : List ℕ) (b : ℕ) (inp : drop b input ≡ xs) (
           }
       there-is false hz hx i s = stays (cc) (cc) (simp (hx, hz))
 
-      go : (x : Bool) → eqb left 0 ≡ x
-          → cond x (Fine at 0) (there xs at (cond (eqb (byte xs at) k) (stringAt xs (at + 1) (left - 1)) (Fine at left))) ≡ Fine a′ left′
-          → SlotSeen k at left a′ left′
+      go : (x : Bool) → eqb due 0 ≡ x
+          → cond x (Fine at 0) (there xs at (cond (eqb (byte xs at) k) (stringAt xs (at + 1) (due - 1)) (Fine at due))) ≡ Fine a′ due′
+          → SlotSeen k at due a′ due′
       go true hx s =
-          let z : left ≡ 0 = eqb-true left 0 hx in
+          let z : due ≡ 0 = eqb-true due 0 hx in
           let p : at ≡ a′ = cc in
-          let q : 0 ≡ left′ = cc in
+          let q : 0 ≡ due′ = cc in
           stays (sym p) (omega arith) (simp hx)
-      go false hx s = let p = there-fine xs at _ a′ left′ s in there-is (eqb (byte xs at) k) refl hx (p .0) (p .1)
+      go false hx s = let p = there-fine xs at _ a′ due′ s in there-is (eqb (byte xs at) k) refl hx (p .0) (p .1)
 
   -- ---- lead, name and count
 
@@ -332,10 +332,10 @@ module _ (e : ℕ) (input xs : List ℕ) (b : ℕ) (inp : drop b input ≡ xs) (
   unfolding headScan
   head-inside g h n s = go (either-fine xs 0x00 _ 0x02 _ h n s .1)
     where
-      go : Either (byte xs 0) 0x00 (stringAt xs 1 0) 0x02 (scans.asked g 3 0 (onward (stringAt xs 1 0) (λ at left. countAt xs at))) h n → h ≤ length xs
+      go : Either (byte xs 0) 0x00 (stringAt xs 1 0) 0x02 (scans.asked g 3 0 (onward (stringAt xs 1 0) (λ at due. countAt xs at))) h n → h ≤ length xs
       go (first y s) = string-seen 1 0 h n s .0 .inside
       go (second y d s) =
-          let o = onward-fine (stringAt xs 1 0) (λ at left. countAt xs at) h n (asked-fine g 3 0 _ h n s) in
+          let o = onward-fine (stringAt xs 1 0) (λ at due. countAt xs at) h n (asked-fine g 3 0 _ h n s) in
           count-seen (o .0) h n (o .3) .inside
 
   head-seen : (g h n : ℕ) → headScan g xs ≡ Fine h n → b + h ≤ e → HeadSeen h n
@@ -343,7 +343,7 @@ module _ (e : ℕ) (input xs : List ℕ) (b : ℕ) (inp : drop b input ≡ xs) (
   head-seen g h n s le = let p = either-fine xs 0x00 _ 0x02 _ h n s in go (p .0) (p .1)
     where
       go : 0 < length xs
-          → Either (byte xs 0) 0x00 (stringAt xs 1 0) 0x02 (scans.asked g 3 0 (onward (stringAt xs 1 0) (λ at left. countAt xs at))) h n → HeadSeen h n
+          → Either (byte xs 0) 0x00 (stringAt xs 1 0) 0x02 (scans.asked g 3 0 (onward (stringAt xs 1 0) (λ at due. countAt xs at))) h n → HeadSeen h n
       go i (first y s) =
           let k = string-seen 1 0 h n s in
           let v = string-name 1 h (k .0) le in
@@ -359,7 +359,7 @@ module _ (e : ℕ) (input xs : List ℕ) (b : ℕ) (inp : drop b input ≡ xs) (
             says = v .says;
           }
       go i (second y d s) =
-          let o = onward-fine (stringAt xs 1 0) (λ at left. countAt xs at) h n (asked-fine g 3 0 _ h n s) in
+          let o = onward-fine (stringAt xs 1 0) (λ at due. countAt xs at) h n (asked-fine g 3 0 _ h n s) in
           let a = o .0 in
           let k = string-seen 1 0 a (o .1) (o .2) in
           let c = count-seen a h n (o .3) in
@@ -454,11 +454,11 @@ module _ (e : ℕ) (input xs : List ℕ) (b : ℕ) (inp : drop b input ≡ xs) (
 
 -- ---- the whole
 
-end-fine : (xs : List ℕ) (at left t m : ℕ) → endScan xs at left ≡ Fine t m → (left ≡ 0) × (at ≡ t) × (m ≡ 11)
+end-fine : (xs : List ℕ) (at due t m : ℕ) → endScan xs at due ≡ Fine t m → (due ≡ 0) × (at ≡ t) × (m ≡ 11)
 unfolding endScan
-end-fine xs at left t m s = go (eqb left 0) refl s
+end-fine xs at due t m s = go (eqb due 0) refl s
   where
-    go : (x : Bool) → eqb left 0 ≡ x → cond x (Fine at 11) (there xs at (Bad Code at)) ≡ Fine t m → (left ≡ 0) × (at ≡ t) × (m ≡ 11)
+    go : (x : Bool) → eqb due 0 ≡ x → cond x (Fine at 11) (there xs at (Bad Code at)) ≡ Fine t m → (due ≡ 0) × (at ≡ t) × (m ≡ 11)
     go true h s = (eqb-true _ _ h, (cc), (cc))
     go false h s = let p = there-fine xs at (Bad Code at) t m s .1 in impossible cc
 

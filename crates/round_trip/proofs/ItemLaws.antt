@@ -51,18 +51,18 @@ plan-ends pool end ws at made = omega arith
 plan-ends pool (step f k) ws at made =
     go (flaw pool f ws) (plan-ends pool (k (view pool f ws)) (drop (wide f) ws) (at + wide f) (made + length (bytes pool f ws)))
   where
-    left : Leaf
-    left = walk (writer pool) (k (view pool f ws)) (drop (wide f) ws) (at + wide f) (made + length (bytes pool f ws))
+    due : Leaf
+    due = walk (writer pool) (k (view pool f ws)) (drop (wide f) ws) (at + wide f) (made + length (bytes pool f ws))
 
     more : ℕ
     more = planWidth pool (k (view pool f ws)) (drop (wide f) ws)
 
-    go : (l : Flaw) → EndsAt left (at + wide f + more)
+    go : (l : Flaw) → EndsAt due (at + wide f + more)
         → EndsAt (next (unless l (Fine (wide f) (length (bytes pool f ws)))) (λ t m. walk (writer pool) (k (view pool f ws)) (drop t ws) (at + t) (made + m)) at)
         (at + (wide f + more))
     go Right h =
         let sum : at + wide f + more ≡ at + (wide f + more) = omega arith in
-        subst (λ n. EndsAt left n) sum h
+        subst (λ n. EndsAt due n) sum h
     go (Wrong w j) h = tt
 
 -- where nothing is refused before, an item is read by its shape

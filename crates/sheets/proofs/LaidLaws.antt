@@ -46,7 +46,7 @@ module _ (ws : List ℕ) where
   rowAt at = take (endOf at - (at + 1)) (drop (at + 1) ws)
 
   -- the row here, and the rows behind it
-  pub record Turn (at : ℕ) (rows : List (List ℕ)) : Type 0 where
+  pub record Round (at : ℕ) (rows : List (List ℕ)) : Type 0 where
     pub later : List (List ℕ)
     pub fits : endOf at ≤ length ws
     pub next : Here (endOf at) later
@@ -57,10 +57,10 @@ module _ (ws : List ℕ) where
   no-rows {at} {rows = []} e h = refl
   no-rows {at} {rows = row ∷ rows} e h = let none = drop-of-length-le ws h in impossible cc
 
-  pub turn : {at : ℕ} {rows : List (List ℕ)} → Here at rows → at < length ws → Turn at rows
+  pub round : {at : ℕ} {rows : List (List ℕ)} → Here at rows → at < length ws → Round at rows
   unfolding laid
-  turn {at} {rows = []} e h = let l : length (drop at ws) ≡ 0 = ap length e in absurd (omega (arith, length-drop at ws))
-  turn {at} {rows = row ∷ rows} e h =
+  round {at} {rows = []} e h = let l : length (drop at ws) ≡ 0 = ap length e in absurd (omega (arith, length-drop at ws))
+  round {at} {rows = row ∷ rows} e h =
       let both : getD ws at 0 ∷ drop (at + 1) ws ≡ length row ∷ row ++ laid rows = rw add-one (sym (drop-cons ws at 0 h) ∙ e) in
       let n : getD ws at 0 ≡ length row = cc in
       let rest : drop (at + 1) ws ≡ row ++ laid rows = cc in

@@ -22,7 +22,7 @@ use Rattle.sections.specs.Section.{writeFamily, measuredFamily, familyBytes}
 use Rattle.sections.proofs.FamilyLaws.{family-stored}
 use Rattle.sheets.specs.Sheet.{tries, joined}
 use Rattle.sheets.specs.inside.Steps.{rowsIn, InRows, Fits, AllMade}
-use Rattle.sheets.proofs.LaidLaws.{Here, endOf, rowAt, no-rows, turn}
+use Rattle.sheets.proofs.LaidLaws.{Here, endOf, rowAt, no-rows, round}
 use Rattle.sheets.proofs.SheetLaws.{Trying, try-start, try-end, try-refused, try-cramped, try-next, row-wrote, put-next}
 use Rattle.numbers.proofs.Impossible.{impossible}
 
@@ -116,11 +116,11 @@ module _ (family : ℕ) (pool : List ℕ) (room : ℕ) (ws first : List ℕ) whe
             let u = row-wrote family row pool made used fitting e p in
             record {
               tries = try-next _ _ _ _ (k .tries) h refl (told .0) l;
-              later = turn ws (k .here) h .later;
-              here = turn ws (k .here) h .next;
+              later = round ws (k .here) h .later;
+              here = round ws (k .here) h .next;
               inside = omega (arith, told .1, same-size u);
               size = same-size u ∙ k .size;
-              same = put-next family pool (turn ws (k .here) h .are) u (k .same);
+              same = put-next family pool (round ws (k .here) h .are) u (k .same);
             }
 
       module _ {w : Refusal} {v : ℕ} (p : a ≡ Refused w v) where

@@ -22,7 +22,7 @@ use Rattle.sections.specs.Section.{writeFamily, measuredFamily, familyBytes}
 use Rattle.sheets.specs.Sheet.{tried, tries, joined}
 use Rattle.sheets.specs.inside.Steps.{laid, rowsIn, InRows, Fits, Passed}
 use Rattle.sheets.proofs.FamilyLaws.{family-row, family-written}
-use Rattle.sheets.proofs.LaidLaws.{Here, endOf, rowAt, no-rows, turn}
+use Rattle.sheets.proofs.LaidLaws.{Here, endOf, rowAt, no-rows, round}
 
 -- ---- trying
 
@@ -49,11 +49,11 @@ module _ (family : ℕ) (pool : List ℕ) (room : ℕ) (ws : List ℕ) where
     -- one row more, and its answer
     module _ (h : at < length ws) {a : Answer} (ea : a ≡ measuredFamily family (rowAt ws at) pool) where
       abbrev behind : ℕ → Leaf
-      behind u = all (turn ws (t .here) h .later) (r + 1) u
+      behind u = all (round ws (t .here) h .later) (r + 1) u
 
       answers : {b : Answer} → a ≡ b → all (rowsIn ws) 0 0 ≡ tried b room used r behind
       unfolding tries
-      answers e = t .same ∙ ap (λ rows. all rows r used) (turn ws (t .here) h .are) ∙ ap (λ x. tried x room used r behind) (sym ea ∙ e)
+      answers e = t .same ∙ ap (λ rows. all rows r used) (round ws (t .here) h .are) ∙ ap (λ x. tried x room used r behind) (sym ea ∙ e)
 
       pub try-refused : {w : Refusal} {v : ℕ} → a ≡ Refused w v → Bad w r ≡ all (rowsIn ws) 0 0
       try-refused e = sym (answers e)
@@ -65,8 +65,8 @@ module _ (family : ℕ) (pool : List ℕ) (room : ℕ) (ws : List ℕ) where
         pub try-next : used + size ≤ room → Trying (endOf ws at) (r + 1) (used + size)
         try-next k =
             record {
-              later = turn ws (t .here) h .later;
-              here = turn ws (t .here) h .next;
+              later = round ws (t .here) h .later;
+              here = round ws (t .here) h .next;
               few = omega (arith, t .few);
               fits = k;
               same = answers e ∙ simp (le-leb _ _ k);
@@ -185,10 +185,10 @@ module _ (family : ℕ) (pool ws first : List ℕ) where
       row = rowAt ws at
 
       abbrev others : List (List ℕ)
-      others = turn ws (w .here) h .later
+      others = round ws (w .here) h .later
 
       taken : Took family pool (length first) row others (w .rows) used
-      taken = took family pool (length first) row others (w .rows) used (rw (turn ws (w .here) h .are) at (w .passed))
+      taken = took family pool (length first) row others (w .rows) used (rw (round ws (w .here) h .are) at (w .passed))
 
       pub write-fits : Fits family row pool (length body) used
       write-fits = rw (w .size) (taken .first)
@@ -197,11 +197,11 @@ module _ (family : ℕ) (pool ws first : List ℕ) where
       write-next {end} {new} u =
           let m = taken .first .size in
           let k = family-row family row pool m (taken .first .measures) in
-          let are = turn ws (w .here) h .are in
+          let are = round ws (w .here) h .are in
           let at-end : end ≡ used + m = omega (arith, u .place, k .long) in
           record {
             later = others;
-            here = turn ws (w .here) h .next;
+            here = round ws (w .here) h .next;
             rows = w .rows + 1;
             passed = rw at-end (subst Passed (ap (λ l. tries family pool (length first) l (w .rows) used) are ∙ taken .later) (w .passed));
             size = same-size u ∙ w .size;

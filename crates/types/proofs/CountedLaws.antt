@@ -1,4 +1,4 @@
--- The turns of the loops over a counted kind's elements: an element that is seen, and one that is put.
+-- The rounds of the loops over a counted kind's elements: an element that is seen, and one that is put.
 use Prim.Native.Nat.{ℕ, zero, suc, _+_, _-_, _≤_, _<_}
 use native.Mathlib.Omega.{arith}
 use mathlib.Core.Path.{_≡_, refl, sym, ap, _∙_, subst}
@@ -40,7 +40,7 @@ use Rattle.writing.proofs.GroupLaws.{
   Going,
   going-next,
   Putting,
-  putting-turn,
+  putting-round,
   name-words,
   value-words,
   second-value-words,
@@ -79,10 +79,10 @@ module _ (f g : Field) (pool row : List ℕ) (at : ℕ) {p q : ℕ} (a : Known p
 
 -- two fields are seen, of which an element has the bytes
 module _ (f g : Field) (pool : List ℕ) {element : List ℕ → List ℕ} (same : (ws : List ℕ) → element ws ≡ strings pool (f ∷ g ∷ []) ws) {most : ℕ}
-    {row : List ℕ} {from n base left at made : ℕ} where
-  known-next : Going pool (f ∷ g ∷ []) element most row from n base left at made → 0 < left
+    {row : List ℕ} {from n base due at made : ℕ} where
+  known-next : Going pool (f ∷ g ∷ []) element most row from n base due at made → 0 < due
       → {p q one at′ : ℕ} → Known pool f (drop at row) p → Known pool g (drop (at + wide f) row) q → one ≡ p + q → one ≤ most
-      → at′ ≡ at + widths (f ∷ g ∷ []) → Going pool (f ∷ g ∷ []) element most row from n base (left - 1) at′ (made + one)
+      → at′ ≡ at + widths (f ∷ g ∷ []) → Going pool (f ∷ g ∷ []) element most row from n base (due - 1) at′ (made + one)
   known-next k h a b e few ea =
       going-next k h (two-right f g pool row at a b) (e ∙ two-size f g pool row at a b ∙ ap length (sym (same (drop at row)))) few ea
 
@@ -95,27 +95,27 @@ label-known : (pool row : List ℕ) (at : ℕ) {one : ℕ} → one ≡ rightSize
     → Known pool field.Name (drop at row) one
 label-known pool row at e p = name-at pool row at refl refl (known-of e p)
 
-module _ {pool row : List ℕ} {from n base left at made : ℕ} where
-  pub label-next : Going pool (field.Name ∷ field.Nothing ∷ []) (label pool) 65541 row from n base left at made → 0 < left → length pool ≤ 65536
+module _ {pool row : List ℕ} {from n base due at made : ℕ} where
+  pub label-next : Going pool (field.Name ∷ field.Nothing ∷ []) (label pool) 65541 row from n base due at made → 0 < due → length pool ≤ 65536
       → {one : ℕ} → one ≡ rightSize pool field.Name (word row at ∷ word row (at + 1) ∷ []) → 0 < one
-      → Going pool (field.Name ∷ field.Nothing ∷ []) (label pool) 65541 row from n base (left - 1) (at + 2) (made + one)
+      → Going pool (field.Name ∷ field.Nothing ∷ []) (label pool) 65541 row from n base (due - 1) (at + 2) (made + one)
   unfolding wide widths
   label-next k h small e p =
       known-next field.Name field.Nothing pool (name-element pool) k h (label-known pool row at e p) (nothing-at pool (drop (at + 2) row)) (omega arith)
       (label-small pool row at small e) refl
 
-  pub value-next : Going pool (field.Value ∷ field.Nothing ∷ []) (λ ws. valtype (word ws 0) (word ws 1)) 5 row from n base left at made → 0 < left
+  pub value-next : Going pool (field.Value ∷ field.Nothing ∷ []) (λ ws. valtype (word ws 0) (word ws 1)) 5 row from n base due at made → 0 < due
       → {one : ℕ} → one ≡ rightSize [] field.Value (word row at ∷ word row (at + 1) ∷ []) → 0 < one
-      → Going pool (field.Value ∷ field.Nothing ∷ []) (λ ws. valtype (word ws 0) (word ws 1)) 5 row from n base (left - 1) (at + 2) (made + one)
+      → Going pool (field.Value ∷ field.Nothing ∷ []) (λ ws. valtype (word ws 0) (word ws 1)) 5 row from n base (due - 1) (at + 2) (made + one)
   unfolding wide widths
   value-next k h e p =
       known-next field.Value field.Nothing pool (value-element pool) k h (value-at pool row at refl refl (value-known e p pool))
       (nothing-at pool (drop (at + 2) row)) (omega arith) (omega (arith, e, value-small (word row at) (word row (at + 1)))) refl
 
-  pub field-next : Going pool (field.Name ∷ field.Value ∷ []) (labelvaltype pool) 65546 row from n base left at made → 0 < left
+  pub field-next : Going pool (field.Name ∷ field.Value ∷ []) (labelvaltype pool) 65546 row from n base due at made → 0 < due
       → length pool ≤ 65536 → {one two : ℕ} → one ≡ rightSize pool field.Name (word row at ∷ word row (at + 1) ∷ []) → 0 < one
       → two ≡ rightSize [] field.Value (word row (at + 2) ∷ word row (at + 3) ∷ []) → 0 < two
-      → Going pool (field.Name ∷ field.Value ∷ []) (labelvaltype pool) 65546 row from n base (left - 1) (at + 4) (made + (one + two))
+      → Going pool (field.Name ∷ field.Value ∷ []) (labelvaltype pool) 65546 row from n base (due - 1) (at + 4) (made + (one + two))
   unfolding wide widths
   field-next k h small e p d q =
       let i : at + 3 ≡ at + 2 + 1 = omega arith in
@@ -123,10 +123,10 @@ module _ {pool row : List ℕ} {from n base left at made : ℕ} where
       (value-at pool row (at + 2) refl (ap (λ j. word row j) i) (value-known d q pool)) refl
       (omega (arith, label-small pool row at small e, d, value-small (word row (at + 2)) (word row (at + 3)))) refl
 
-  pub case-next : Going pool (field.Name ∷ field.OptionalThenZero ∷ []) (case pool) 65548 row from n base left at made → 0 < left
+  pub case-next : Going pool (field.Name ∷ field.OptionalThenZero ∷ []) (case pool) 65548 row from n base due at made → 0 < due
       → length pool ≤ 65536 → {one two : ℕ} → one ≡ rightSize pool field.Name (word row at ∷ word row (at + 1) ∷ []) → 0 < one
       → OptionalKnown 1 (word row (at + 2)) (word row (at + 3)) two → two ≤ 6
-      → Going pool (field.Name ∷ field.OptionalThenZero ∷ []) (case pool) 65548 row from n base (left - 1) (at + 4) (made + (one + two + 1))
+      → Going pool (field.Name ∷ field.OptionalThenZero ∷ []) (case pool) 65548 row from n base (due - 1) (at + 4) (made + (one + two + 1))
   unfolding wide widths optional
   case-next k h small {one} {two} e p s few =
       let t = word row (at + 2) in
@@ -167,30 +167,30 @@ module _ (pool row : List ℕ) (at : ℕ) {to s : ℕ} {now mid : List ℕ} {r :
       let w = name-put (room-first (label pool (drop at row)) rest to (length now) room) in
       (w, room-then w rest room)
 
-module _ {row : List ℕ} {from n : ℕ} {old : List ℕ} {base left at to : ℕ} {now mid : List ℕ} {s : ℕ} {r : Stored} where
-  pub value-put : Putting [] (field.Index ∷ field.Index ∷ []) (λ ws. valtype (word ws 0) (word ws 1)) row from n old base left at to now
-      → 0 < left → base + length (elements n 2 (λ ws. valtype (word ws 0) (word ws 1)) (drop from row)) ≤ length old
+module _ {row : List ℕ} {from n : ℕ} {old : List ℕ} {base due at to : ℕ} {now mid : List ℕ} {s : ℕ} {r : Stored} where
+  pub value-put : Putting [] (field.Index ∷ field.Index ∷ []) (λ ws. valtype (word ws 0) (word ws 1)) row from n old base due at to now
+      → 0 < due → base + length (elements n 2 (λ ws. valtype (word ws 0) (word ws 1)) (drop from row)) ≤ length old
       → stored.left r mid ≡ store (valtype (word row at) (word row (at + 1))) to now → s ≡ valueOf r
       → Wrote now to (valtype (word (drop at row) 0) (word (drop at row) 1)) (to + s) mid × (to + s ≤ length mid)
   unfolding wide widths
   value-put k h room e v =
-      let turn = putting-turn left k h room in
+      let round = putting-round due k h room in
       let w : Wrote now to (valtype (word (drop at row) 0) (word (drop at row) 1)) (to + s) mid =
-      of-store (e ∙ ap (λ l. store l to now) (value-words row at)) v (turn .1) in
-      (w, stored-inside w (turn .1))
+      of-store (e ∙ ap (λ l. store l to now) (value-words row at)) v (round .1) in
+      (w, stored-inside w (round .1))
 
   module _ {pool : List ℕ} where
-    pub label-put : Putting pool (field.Name ∷ field.Nothing ∷ []) (label pool) row from n old base left at to now
-        → 0 < left → base + length (elements n 2 (label pool) (drop from row)) ≤ length old
+    pub label-put : Putting pool (field.Name ∷ field.Nothing ∷ []) (label pool) row from n old base due at to now
+        → 0 < due → base + length (elements n 2 (label pool) (drop from row)) ≤ length old
         → stored.left r mid ≡ store (unsigned (word row (at + 1)) ++ partOf pool (word row at) (word row (at + 1))) to now → s ≡ valueOf r
         → Wrote now to (label pool (drop at row)) (to + s) mid × (to + s ≤ length mid)
     unfolding wide widths
     label-put k h room e v =
-        let turn = putting-turn left k h room in
-        let w = name-put pool row at e v (field.Nothing ∷ []) (turn .0) (turn .1) in
-        (w, stored-inside w (turn .1))
+        let round = putting-round due k h room in
+        let w = name-put pool row at e v (field.Nothing ∷ []) (round .0) (round .1) in
+        (w, stored-inside w (round .1))
 
-    module _ (k : Putting pool (field.Name ∷ field.Value ∷ []) (labelvaltype pool) row from n old base left at to now) (h : 0 < left)
+    module _ (k : Putting pool (field.Name ∷ field.Value ∷ []) (labelvaltype pool) row from n old base due at to now) (h : 0 < due)
         (room : base + length (elements n 4 (labelvaltype pool) (drop from row)) ≤ length old)
         (e : stored.left r mid ≡ store (unsigned (word row (at + 1)) ++ partOf pool (word row at) (word row (at + 1))) to now)
         (v : s ≡ valueOf r) where
@@ -198,8 +198,8 @@ module _ {row : List ℕ} {from n : ℕ} {old : List ℕ} {base left at to : ℕ
           × (to + s + length (valtype (word (drop at row) 2) (word (drop at row) 3)) ≤ length mid)
       unfolding wide widths
       field-label =
-          let turn = putting-turn left k h room in
-          name-then pool row at e v (field.Value ∷ []) (turn .0) (valtype (word (drop at row) 2) (word (drop at row) 3)) (turn .1)
+          let round = putting-round due k h room in
+          name-then pool row at e v (field.Value ∷ []) (round .0) (valtype (word (drop at row) 2) (word (drop at row) 3)) (round .1)
 
       pub field-put : {new : List ℕ} {t : ℕ} {q : Stored} → stored.left q new ≡ store (valtype (word row (at + 2)) (word row (at + 3))) (to + s) mid
           → t ≡ valueOf q → Wrote now to (labelvaltype pool (drop at row)) (to + s + t) new × (to + s + t ≤ length new)
@@ -208,7 +208,7 @@ module _ {row : List ℕ} {from n : ℕ} {old : List ℕ} {base left at to : ℕ
           of-store (d ∙ ap (λ l. store l (to + s) mid) (second-value-words row at)) u (field-label .1) in
           (then (field-label .0) w, stored-inside w (field-label .1))
 
-    module _ (k : Putting pool (field.Name ∷ field.OptionalThenZero ∷ []) (case pool) row from n old base left at to now) (h : 0 < left)
+    module _ (k : Putting pool (field.Name ∷ field.OptionalThenZero ∷ []) (case pool) row from n old base due at to now) (h : 0 < due)
         (room : base + length (elements n 4 (case pool) (drop from row)) ≤ length old)
         (e : stored.left r mid ≡ store (unsigned (word row (at + 1)) ++ partOf pool (word row at) (word row (at + 1))) to now)
         (v : s ≡ valueOf r) where
@@ -216,9 +216,9 @@ module _ {row : List ℕ} {from n : ℕ} {old : List ℕ} {base left at to : ℕ
           × (to + s + length (optional (word (drop at row) 2) (word (drop at row) 3) ++ 0x00 ∷ []) ≤ length mid)
       unfolding wide widths
       case-label =
-          let turn = putting-turn left k h room in
-          name-then pool row at e v (field.OptionalThenZero ∷ []) (turn .0) (optional (word (drop at row) 2) (word (drop at row) 3) ++ 0x00 ∷ [])
-          (turn .1)
+          let round = putting-round due k h room in
+          name-then pool row at e v (field.OptionalThenZero ∷ []) (round .0) (optional (word (drop at row) 2) (word (drop at row) 3) ++ 0x00 ∷ [])
+          (round .1)
 
       pub case-room : (to + s ≤ length mid) × (to + s + length (optional (word row (at + 2)) (word row (at + 3))) ≤ length mid)
       case-room =

@@ -33,15 +33,15 @@ fn labels_size(row: &[u32], from: usize, n: usize, pool: &[u8], base: usize) -> 
 {
     let mut at = from;
     let mut made = base;
-    let mut left = n;
-    while 0 < left {
+    let mut due = n;
+    while 0 < due {
         let one = name_size(pool, row[at], row[at + 1]);
         if one == 0 {
             return 0;
         }
         made += one;
         at += 2;
-        left -= 1;
+        due -= 1;
     }
     made
 }
@@ -54,11 +54,11 @@ fn put_labels(row: &[u32], from: usize, n: usize, pool: &[u8], out: &mut [u8], b
 {
     let mut at = from;
     let mut to = base;
-    let mut left = n;
-    while 0 < left {
+    let mut due = n;
+    while 0 < due {
         to += stored_size(writing::put_name(pool, row[at], row[at + 1], to, out));
         at += 2;
-        left -= 1;
+        due -= 1;
     }
 }
 
@@ -71,15 +71,15 @@ fn values_size(row: &[u32], from: usize, n: usize, base: usize) -> usize
 {
     let mut at = from;
     let mut made = base;
-    let mut left = n;
-    while 0 < left {
+    let mut due = n;
+    while 0 < due {
         let one = value_size(row[at], row[at + 1]);
         if one == 0 {
             return 0;
         }
         made += one;
         at += 2;
-        left -= 1;
+        due -= 1;
     }
     made
 }
@@ -91,11 +91,11 @@ fn put_values(row: &[u32], from: usize, n: usize, out: &mut [u8], base: usize)
 {
     let mut at = from;
     let mut to = base;
-    let mut left = n;
-    while 0 < left {
+    let mut due = n;
+    while 0 < due {
         to += stored_size(writing::put_value(row[at], row[at + 1], to, out));
         at += 2;
-        left -= 1;
+        due -= 1;
     }
 }
 
@@ -108,8 +108,8 @@ pub fn fields_size(row: &[u32], from: usize, n: usize, pool: &[u8], base: usize)
 {
     let mut at = from;
     let mut made = base;
-    let mut left = n;
-    while 0 < left {
+    let mut due = n;
+    while 0 < due {
         let one = name_size(pool, row[at], row[at + 1]);
         let two = value_size(row[at + 2], row[at + 3]);
         if one == 0 {
@@ -120,7 +120,7 @@ pub fn fields_size(row: &[u32], from: usize, n: usize, pool: &[u8], base: usize)
         }
         made += one + two;
         at += 4;
-        left -= 1;
+        due -= 1;
     }
     made
 }
@@ -140,12 +140,12 @@ pub fn put_fields(
 {
     let mut at = from;
     let mut to = base;
-    let mut left = n;
-    while 0 < left {
+    let mut due = n;
+    while 0 < due {
         to += stored_size(writing::put_name(pool, row[at], row[at + 1], to, out));
         to += stored_size(writing::put_value(row[at + 2], row[at + 3], to, out));
         at += 4;
-        left -= 1;
+        due -= 1;
     }
     to
 }
@@ -159,8 +159,8 @@ fn cases_size(row: &[u32], from: usize, n: usize, pool: &[u8], base: usize) -> u
 {
     let mut at = from;
     let mut made = base;
-    let mut left = n;
-    while 0 < left {
+    let mut due = n;
+    while 0 < due {
         let one = name_size(pool, row[at], row[at + 1]);
         let two = optional_size(1, row[at + 2], row[at + 3]);
         if one == 0 {
@@ -171,7 +171,7 @@ fn cases_size(row: &[u32], from: usize, n: usize, pool: &[u8], base: usize) -> u
         }
         made += one + two + 1;
         at += 4;
-        left -= 1;
+        due -= 1;
     }
     made
 }
@@ -184,14 +184,14 @@ fn put_cases(row: &[u32], from: usize, n: usize, pool: &[u8], out: &mut [u8], ba
 {
     let mut at = from;
     let mut to = base;
-    let mut left = n;
-    while 0 < left {
+    let mut due = n;
+    while 0 < due {
         to += stored_size(writing::put_name(pool, row[at], row[at + 1], to, out));
         to = put_optional(row[at + 2], row[at + 3], out, to);
         out[to] = 0x00;
         to += 1;
         at += 4;
-        left -= 1;
+        due -= 1;
     }
 }
 

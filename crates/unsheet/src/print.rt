@@ -59,5 +59,6 @@ pub fn say_room(at: usize, words: usize) {
     say_refused(Refusal::Room);
     say_place(at);
     say_field(b": an entry of ", words as u64);
-    say_line(b" words, and a row has at most 16384");
+    say_field(b" words, and a row has at most ", fields::ROW_WORDS as u64);
+    say(b"\n");
 }

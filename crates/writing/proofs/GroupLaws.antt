@@ -26,12 +26,12 @@ use Rattle.writing.proofs.WroteLaws.{then-byte, same-size}
 use Rattle.writing.specs.inside.Rows.{Rights, Groups}
 use Rattle.writing.proofs.RowLaws.{rights-first, rights-rest, rights-join}
 
--- ---- groups that are seen: `left` are still to be seen, each of `most` bytes at most
+-- ---- groups that are seen: `due` are still to be seen, each of `most` bytes at most
 
-pub record Going (pool : List ℕ) (g : List Field) (element : List ℕ → List ℕ) (most : ℕ) (row : List ℕ) (from n base left at made : ℕ) : Type 0 where
-  pub place : at + left * widths g ≡ from + n * widths g
-  pub small : made + left * most ≤ base + n * most
-  pub whole : (r : ℕ) → Groups pool g element left (drop at row) made r → Groups pool g element n (drop from row) base r
+pub record Going (pool : List ℕ) (g : List Field) (element : List ℕ → List ℕ) (most : ℕ) (row : List ℕ) (from n base due at made : ℕ) : Type 0 where
+  pub place : at + due * widths g ≡ from + n * widths g
+  pub small : made + due * most ≤ base + n * most
+  pub whole : (r : ℕ) → Groups pool g element due (drop at row) made r → Groups pool g element n (drop from row) base r
 
 pub going-start : (pool : List ℕ) (g : List Field) (element : List ℕ → List ℕ) (most : ℕ) (row : List ℕ) (from n base : ℕ)
     → Going pool g element most row from n base n from base
@@ -65,27 +65,27 @@ module _ {pool : List ℕ} {g : List Field} {element : List ℕ → List ℕ} {m
             length-append (element (drop at row)) (elements m (widths g) element (drop (widths g) (drop at row))),
           )
 
-  pub going-next : {left at made one at′ : ℕ} → Going pool g element most row from n base left at made → 0 < left → Rights pool g (drop at row)
+  pub going-next : {due at made one at′ : ℕ} → Going pool g element most row from n base due at made → 0 < due → Rights pool g (drop at row)
       → one ≡ length (element (drop at row)) → one ≤ most → at′ ≡ at + widths g
-      → Going pool g element most row from n base (left - 1) at′ (made + one)
-  going-next {left} {at} {made} k h =
-      let p : left ≡ suc (left - 1) = omega arith in
-      going-on (left - 1) (subst (λ j. Going pool g element most row from n base j at made) p k)
+      → Going pool g element most row from n base (due - 1) at′ (made + one)
+  going-next {due} {at} {made} k h =
+      let p : due ≡ suc (due - 1) = omega arith in
+      going-on (due - 1) (subst (λ j. Going pool g element most row from n base j at made) p k)
 
-  pub going-end : {at made : ℕ} (left : ℕ) → Going pool g element most row from n base left at made → left ≤ 0
+  pub going-end : {at made : ℕ} (due : ℕ) → Going pool g element most row from n base due at made → due ≤ 0
       → Groups pool g element n (drop from row) base made
   unfolding repeated elements Rights
   going-end {at} {made} zero k h = k .whole made (record { right = tt; size = omega arith })
   going-end (suc m) k h = absurd (omega arith)
 
--- ---- elements that are put: `left` are still to be put
+-- ---- elements that are put: `due` are still to be put
 
-pub record Putting (pool : List ℕ) (g : List Field) (element : List ℕ → List ℕ) (row : List ℕ) (from n : ℕ) (old : List ℕ) (base left at to : ℕ)
+pub record Putting (pool : List ℕ) (g : List Field) (element : List ℕ → List ℕ) (row : List ℕ) (from n : ℕ) (old : List ℕ) (base due at to : ℕ)
     (new : List ℕ) : Type 0 where
-  pub place : at + left * widths g ≡ from + n * widths g
-  pub right : Rights pool (repeated left g) (drop at row)
-  pub whole : sets new to (elements left (widths g) element (drop at row)) ≡ sets old base (elements n (widths g) element (drop from row))
-  pub ends : to + length (elements left (widths g) element (drop at row)) ≡ base + length (elements n (widths g) element (drop from row))
+  pub place : at + due * widths g ≡ from + n * widths g
+  pub right : Rights pool (repeated due g) (drop at row)
+  pub whole : sets new to (elements due (widths g) element (drop at row)) ≡ sets old base (elements n (widths g) element (drop from row))
+  pub ends : to + length (elements due (widths g) element (drop at row)) ≡ base + length (elements n (widths g) element (drop from row))
   pub same : length new ≡ length old
 
 pub putting-start : (pool : List ℕ) (g : List Field) (element : List ℕ → List ℕ) (row : List ℕ) (from n : ℕ) (old : List ℕ) (base : ℕ)
@@ -94,12 +94,12 @@ putting-start pool g element row from n old base h = record { place = refl; righ
 
 module _ {pool : List ℕ} {g : List Field} {element : List ℕ → List ℕ} {row : List ℕ} {from n : ℕ} {old : List ℕ} {base : ℕ} where
   -- the next group is right, and its element has room
-  pub putting-turn : {at to : ℕ} {new : List ℕ} (left : ℕ) → Putting pool g element row from n old base left at to new → 0 < left
+  pub putting-round : {at to : ℕ} {new : List ℕ} (due : ℕ) → Putting pool g element row from n old base due at to new → 0 < due
       → base + length (elements n (widths g) element (drop from row)) ≤ length old
       → Rights pool g (drop at row) × (to + length (element (drop at row)) ≤ length new)
   unfolding repeated elements
-  putting-turn zero p h b = absurd (omega arith)
-  putting-turn {at} {to} {new} (suc m) p h b = (
+  putting-round zero p h b = absurd (omega arith)
+  putting-round {at} {to} {new} (suc m) p h b = (
     rights-first pool g (repeated m g) (drop at row) (p .right),
     omega (
       arith,
@@ -131,14 +131,14 @@ module _ {pool : List ℕ} {g : List Field} {element : List ℕ → List ℕ} {r
       stores : sets more next rest ≡ sets new to (element (drop at row) ++ rest)
       stores = rw (w .content, w .place) (sets-append (element (drop at row)) rest new to)
 
-  pub putting-next : {left at to at′ : ℕ} {new : List ℕ} → Putting pool g element row from n old base left at to new → 0 < left
+  pub putting-next : {due at to at′ : ℕ} {new : List ℕ} → Putting pool g element row from n old base due at to new → 0 < due
       → {next : ℕ} {more : List ℕ} → Wrote new to (element (drop at row)) next more → at′ ≡ at + widths g
-      → Putting pool g element row from n old base (left - 1) at′ next more
-  putting-next {left} {at} {to} {at′} {new} k h w ea =
-      let p : left ≡ suc (left - 1) = omega arith in
-      putting-on (left - 1) (subst (λ j. Putting pool g element row from n old base j at to new) p k) w ea
+      → Putting pool g element row from n old base (due - 1) at′ next more
+  putting-next {due} {at} {to} {at′} {new} k h w ea =
+      let p : due ≡ suc (due - 1) = omega arith in
+      putting-on (due - 1) (subst (λ j. Putting pool g element row from n old base j at to new) p k) w ea
 
-  pub putting-end : {at to : ℕ} {new : List ℕ} (left : ℕ) → Putting pool g element row from n old base left at to new → left ≤ 0
+  pub putting-end : {at to : ℕ} {new : List ℕ} (due : ℕ) → Putting pool g element row from n old base due at to new → due ≤ 0
       → Wrote old base (elements n (widths g) element (drop from row)) to new
   unfolding elements
   putting-end zero p h = record { place = omega (arith, p .ends); content = p .whole }

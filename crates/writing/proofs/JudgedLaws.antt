@@ -73,7 +73,7 @@ module _ (pool row : List ℕ) (g : List Field) (n from base : ℕ) where
   groups-start = record { walked = walked-start (judge pool) row g n from base; place = omega arith; bytes = omega arith }
 
   module _ (i at made : ℕ) (so : Groups pool row g n from base i at made) where
-    -- a turn: l is what is judged of one group
+    -- a round: l is what is judged of one group
     pub groups-next : i < n → (l : Leaf) → l ≡ onward (judge pool) row g at made → (a m : ℕ) → length pool ≤ 65536 → l ≡ Fine a m
         → Groups pool row g n from base (i + 1) a m
     groups-next h l el a m p e =

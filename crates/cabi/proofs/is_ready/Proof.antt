@@ -12,7 +12,7 @@ use Rattle.cabi.proofs.ReadyLaws.{not-ready}
 use Rattle.cabi.proofs.is_ready.Statement.{statement}
 use Rattle.cabi.proofs.is_ready.Tie as tie
 
--- past the first four tests only the family is left
+-- past the first four tests only the family is to be tested
 ready-at : (family : ℕ) → knownFamily family ≡ true → (c : tie.Then4)
     → let a = c .before .before .before .before .before .before .before .before .args in
     getD (now (a .state)) 0 0 ≡ family → Ready (now (a .state)) (a .n)

@@ -48,12 +48,12 @@ abbrev pub externWords : Extern → List ℕ
 externWords e = e .start ∷ e .size ∷ (slotWords (e .implements) ++ (slotWords (e .suffix) ++ slotWords (e .id)))
 
 abbrev pub noSlot : ℕ → ℕ → Slot
-noSlot next left = record { next = next; left = left; present = 0; start = 0; size = 0 }
+noSlot next due = record { next = next; due = due; present = 0; start = 0; size = 0 }
 
 -- an option ends at a place, with so many still to come, and says so; where it is not right, it says 0
 abbrev pub SlotTold : Leaf → List ℕ → Slot → Type 0
-SlotTold (Fine at left) ws r = (0 < r .next) × (r .next ≡ at) × (r .left ≡ left) × (slotWords r ≡ ws)
-SlotTold (Bad w j) ws r = (r .next ≡ 0) × (r .left ≡ 0)
+SlotTold (Fine at due) ws r = (0 < r .next) × (r .next ≡ at) × (r .due ≡ due) × (slotWords r ≡ ws)
+SlotTold (Bad w j) ws r = (r .next ≡ 0) × (r .due ≡ 0)
 
 -- the same of an extern name
 abbrev pub Says : Leaf → List ℕ → Extern → Type 0

@@ -1,4 +1,4 @@
--- `reading::primitive_of` meets its contract: the first test is that of `primitive`, and nothing is left of 7f behind a byte that is
+-- `reading::primitive_of` meets its contract: the first test is that of `primitive`, and nothing remains of 7f behind a byte that is
 -- not below it.
 use native.Mathlib.Omega.{arith}
 use borrow.Author.Needs.{needs}

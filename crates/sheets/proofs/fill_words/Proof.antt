@@ -1,4 +1,4 @@
--- `fill_words` meets its contract. The loop's invariant: the first i words stand at the front of the row. The measure is how many are left.
+-- `fill_words` meets its contract. The loop's invariant: the first i words stand at the front of the row. The measure is how many are due.
 use Prim.Native.Nat.{_-_, _≤_}
 use native.Mathlib.Omega.{arith}
 use mathlib.Core.Path.{_≡_, refl, ap, _∙_}

@@ -1,5 +1,5 @@
 -- `is_framed` meets its contract. The loop's invariant: the rows from here are whole where those from the start are. The measure is how
--- many bytes are left.
+-- many bytes are due.
 use Prim.Native.Nat.{_-_, _≤_}
 use native.Mathlib.Omega.{arith}
 use mathlib.Core.Path.{_≡_, refl, sym, ap, _∙_}

@@ -5,7 +5,7 @@ use mathlib.Core.Path.{_∙_}
 use borrow.Author.Needs.{needs}
 use denote.Ref.{now}
 use lib.ListN.{length}
-use Rattle.sheets.proofs.LaidLaws.{endOf, turn}
+use Rattle.sheets.proofs.LaidLaws.{endOf, round}
 use Rattle.sheets.proofs.MakeLaws.{Making, make-start, make-end, make-cramped, make-next, make-barred, make-refused}
 use Rattle.sheets.proofs.make_rows.Statement.{statement}
 use Rattle.sheets.proofs.make_rows.Tie as tie
@@ -19,7 +19,7 @@ abbrev μ-loop : tie.MeasureT-loop
 -- the row here is whole
 row-fits : (c : tie.In-loop Inv-loop μ-loop)
     → let words = now (c .before .before .before .before .before .args .words) in endOf words (c .before .loop .at) ≤ length words
-row-fits c = turn _ (c .before .loop .inv .here) (c .loop-test .taken) .fits
+row-fits c = round _ (c .before .loop .inv .here) (c .loop-test .taken) .fits
 
 loop-holds : tie.Need-loop-holds Inv-loop μ-loop
 loop-holds c = make-start _ _ _ _ _ (c .before .before .before .pre)

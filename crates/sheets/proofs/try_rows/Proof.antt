@@ -1,10 +1,10 @@
--- `try_rows` meets its contract. The loop's invariant: the rows from here come to what all come to. The measure: how many words are left.
+-- `try_rows` meets its contract. The loop's invariant: the rows from here come to what all come to. The measure: how many words are due.
 use Prim.Native.Nat.{_-_, _≤_}
 use native.Mathlib.Omega.{arith}
 use borrow.Author.Needs.{needs}
 use denote.Ref.{now}
 use lib.ListN.{length}
-use Rattle.sheets.proofs.LaidLaws.{endOf, turn}
+use Rattle.sheets.proofs.LaidLaws.{endOf, round}
 use Rattle.sheets.proofs.SheetLaws.{Trying, try-start, try-end, try-refused, try-cramped, try-next}
 use Rattle.sheets.proofs.try_rows.Statement.{statement}
 use Rattle.sheets.proofs.try_rows.Tie as tie
@@ -18,7 +18,7 @@ abbrev μ-loop : tie.MeasureT-loop
 -- the row here is whole
 row-fits : (c : tie.In-loop Inv-loop μ-loop)
     → let words = now (c .before .before .before .before .args .words) in endOf words (c .before .loop .at) ≤ length words
-row-fits c = turn _ (c .before .loop .inv .here) (c .loop-test .taken) .fits
+row-fits c = round _ (c .before .loop .inv .here) (c .loop-test .taken) .fits
 
 loop-holds : tie.Need-loop-holds Inv-loop μ-loop
 loop-holds c = try-start _ _ _ _ (c .before .before .pre)

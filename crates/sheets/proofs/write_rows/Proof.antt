@@ -1,10 +1,10 @@
--- `write_rows` meets its contract. The loop's invariant: the rows from here, put here, leave what all leave. The measure: the words left.
+-- `write_rows` meets its contract. The loop's invariant: the rows from here, put here, leave what all leave. The measure: the words due.
 use Prim.Native.Nat.{_-_, _≤_}
 use native.Mathlib.Omega.{arith}
 use borrow.Author.Needs.{needs}
 use denote.Ref.{now}
 use lib.ListN.{length}
-use Rattle.sheets.proofs.LaidLaws.{endOf, turn}
+use Rattle.sheets.proofs.LaidLaws.{endOf, round}
 use Rattle.sheets.proofs.SheetLaws.{Writing, write-start, write-end, write-fits, write-next}
 use Rattle.sheets.proofs.write_rows.Statement.{statement}
 use Rattle.sheets.proofs.write_rows.Tie as tie
@@ -18,7 +18,7 @@ abbrev μ-loop : tie.MeasureT-loop
 -- the row here is whole
 row-fits : (c : tie.In-loop Inv-loop μ-loop)
     → let words = now (c .before .before .before .before .before .args .words) in endOf words (c .before .loop .at) ≤ length words
-row-fits c = turn _ (c .before .loop .inv .here) (c .loop-test .taken) .fits
+row-fits c = round _ (c .before .loop .inv .here) (c .loop-test .taken) .fits
 
 loop-holds : tie.Need-loop-holds Inv-loop μ-loop
 loop-holds c = let start = c .before .before .before in write-start _ _ _ _ (start .pre .0) (start .pre .1)

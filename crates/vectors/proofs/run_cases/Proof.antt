@@ -1,4 +1,4 @@
--- `vectors::run_cases` is safe and ends: the lent buffers keep their lengths, and the cases left become fewer.
+-- `vectors::run_cases` is safe and ends: the lent buffers keep their lengths, and the cases due become fewer.
 use Prim.Native.Nat.{_-_}
 use mathlib.Core.Path.{_≡_}
 use lib.ListN.{length}

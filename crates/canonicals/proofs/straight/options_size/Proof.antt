@@ -9,10 +9,10 @@ use Rattle.canonicals.proofs.straight.options_size.Statement.{statement
 use Rattle.canonicals.proofs.straight.options_size.Tie as tie
 
 abbrev Inv-loop : tie.InvT-loop
-Inv-loop row from n base at₀ made₀ left₀ at made left = Going row from n base left at made
+Inv-loop row from n base at₀ made₀ due₀ at made due = Going row from n base due at made
 
 abbrev μ-loop : tie.MeasureT-loop
-μ-loop row from n base at₀ made₀ left₀ at made left = left
+μ-loop row from n base at₀ made₀ due₀ at made due = due
 
 loop-holds : tie.Need-loop-holds Inv-loop μ-loop
 loop-holds c = going-start [] one element 6 (now (c .before .args .row)) (c .before .args .from) (c .before .args .n) (c .before .args .base)
@@ -41,8 +41,8 @@ add-made c = omega (arith, going-place (c .before .before .before .before .befor
 add-at : tie.Need-add-at Inv-loop μ-loop
 add-at c = omega (arith, going-place (c .before .before .before .before .before .loop .inv), c .before .before .before .before .before .before .before .pre .0, c .before .before .before .before .before .before .before .pre .1)
 
-sub-left : tie.Need-sub-left Inv-loop μ-loop
-sub-left c = omega (arith, going-place (c .before .before .before .before .before .loop .inv), c .before .before .before .before .before .before .before .pre .0, c .before .before .before .before .before .before .before .pre .1)
+sub-due : tie.Need-sub-due Inv-loop μ-loop
+sub-due c = omega (arith, going-place (c .before .before .before .before .before .loop .inv), c .before .before .before .before .before .before .before .pre .0, c .before .before .before .before .before .before .before .pre .1)
 
 loop-less : tie.Need-loop-less Inv-loop μ-loop
 loop-less c = omega arith
@@ -57,5 +57,5 @@ pub options-size-spec : {M : Type 1} → statement M
 options-size-spec =
     tie.close
     (tie.spec Inv-loop μ-loop loop-holds mul-option-size shared-slice-read-option-size add-option-size
-    mul-option-size-2 shared-slice-read-option-size-2 (search needs) returns add-made add-at sub-left loop-less
+    mul-option-size-2 shared-slice-read-option-size-2 (search needs) returns add-made add-at sub-due loop-less
     loop-again returns-2)

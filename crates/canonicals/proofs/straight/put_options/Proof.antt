@@ -1,15 +1,15 @@
 -- `put_options` meets its contract: the loop's invariant is `Putting`: what is still to be put, put here, leaves what the whole leaves.
 use native.Mathlib.Omega.{arith}
 use denote.Ref.{now}
-use Rattle.canonicals.proofs.ClassLaws.{Putting, putting-place, putting-start, putting-turn, putting-next, putting-end}
+use Rattle.canonicals.proofs.ClassLaws.{Putting, putting-place, putting-start, putting-round, putting-next, putting-end}
 use Rattle.canonicals.proofs.straight.put_options.Statement.{statement}
 use Rattle.canonicals.proofs.straight.put_options.Tie as tie
 
 abbrev Inv-loop : tie.InvT-loop
-Inv-loop row from n out₀ base at₀ to₀ left₀ out at to left = Putting row from n out₀ base left at to out
+Inv-loop row from n out₀ base at₀ to₀ due₀ out at to due = Putting row from n out₀ base due at to out
 
 abbrev μ-loop : tie.MeasureT-loop
-μ-loop row from n out₀ base at₀ to₀ left₀ out at to left = left
+μ-loop row from n out₀ base at₀ to₀ due₀ out at to due = due
 
 loop-holds : tie.Need-loop-holds Inv-loop μ-loop
 loop-holds c =
@@ -32,13 +32,13 @@ shared-slice-read-put-option-2 : tie.Need-shared-slice-read-put-option-2 Inv-loo
 shared-slice-read-put-option-2 c = omega (arith, putting-place (c .before .before .before .loop .inv), c .before .before .before .before .before .before .pre .0)
 
 put-option-requires : tie.Need-put-option-requires Inv-loop μ-loop
-put-option-requires c κs = putting-turn (c .before .before .before .before .loop .inv) (c .before .before .before .loop-test .taken) (c .before .before .before .before .before .before .before .pre .2)
+put-option-requires c κs = putting-round (c .before .before .before .before .loop .inv) (c .before .before .before .loop-test .taken) (c .before .before .before .before .before .before .before .pre .2)
 
 add-at : tie.Need-add-at Inv-loop μ-loop
 add-at c = omega (arith, putting-place (c .before .before .before .before .before .before .before .loop .inv), c .before .before .before .before .before .before .before .before .before .before .pre .0)
 
-sub-left : tie.Need-sub-left Inv-loop μ-loop
-sub-left c = omega (arith, putting-place (c .before .before .before .before .before .before .before .loop .inv), c .before .before .before .before .before .before .before .before .before .before .pre .0)
+sub-due : tie.Need-sub-due Inv-loop μ-loop
+sub-due c = omega (arith, putting-place (c .before .before .before .before .before .before .before .loop .inv), c .before .before .before .before .before .before .before .before .before .before .pre .0)
 
 loop-less : tie.Need-loop-less Inv-loop μ-loop
 loop-less c = omega arith
@@ -56,4 +56,4 @@ pub put-options-spec : {M : Type 1} → statement M
 put-options-spec =
     tie.close
     (tie.spec Inv-loop μ-loop loop-holds mul-put-option shared-slice-read-put-option add-put-option mul-put-option-2
-    shared-slice-read-put-option-2 put-option-requires add-at sub-left loop-less loop-again same-length returns)
+    shared-slice-read-put-option-2 put-option-requires add-at sub-due loop-less loop-again same-length returns)

@@ -1,4 +1,4 @@
--- `cases_end` meets its contract: the groups that are left end where all of them do (`Going`), and each step says whether its field is
+-- `cases_end` meets its contract: the groups that are due end where all of them do (`Going`), and each step says whether its field is
 -- right (`name-some`, `name-none`, `case-some`, `case-never`).
 use Prim.Native.Nat.{_+_}
 use native.Mathlib.Omega.{arith}
@@ -12,10 +12,10 @@ use Rattle.items.proofs.groups.cases_end.Statement.{statement}
 use Rattle.items.proofs.groups.cases_end.Tie as tie
 
 abbrev Inv-loop : tie.InvT-loop
-Inv-loop grade input from n at₀ left₀ at left = Going grade input (field.Name ∷ field.OptionalThenZero ∷ []) n from left at
+Inv-loop grade input from n at₀ due₀ at due = Going grade input (field.Name ∷ field.OptionalThenZero ∷ []) n from due at
 
 abbrev μ-loop : tie.MeasureT-loop
-μ-loop grade input from n at₀ left₀ at left = left
+μ-loop grade input from n at₀ due₀ at due = due
 
 loop-holds : tie.Need-loop-holds Inv-loop μ-loop
 loop-holds c = going-start (c .before .pre .1) (c .before .pre .2)
@@ -86,8 +86,8 @@ add-at-2 c =
     let two = case-some (args .grade) (now (args .input)) (loop .at + label .result .took) (c .before .case-took .ensures) (c .if2 .left) in
     omega (arith, one .1, two .1, loop .inv .inside, pre .0)
 
-sub-left : tie.Need-sub-left Inv-loop μ-loop
-sub-left c = omega (arith, c .before .before .before .before .before .before .loop-test .taken)
+sub-due : tie.Need-sub-due Inv-loop μ-loop
+sub-due c = omega (arith, c .before .before .before .before .before .before .loop-test .taken)
 
 loop-less : tie.Need-loop-less Inv-loop μ-loop
 loop-less c = omega (arith, c .before .before .before .before .before .before .loop-test .taken)
@@ -108,5 +108,5 @@ pub cases-end-spec : {M : Type 1} → statement M
 cases-end-spec =
     tie.close
     (tie.spec Inv-loop μ-loop loop-holds sub-name part-name-start part-name-end (λ c κs. search needs) returns add-at
-    sub-case-took part-case-took-start part-case-took-end (λ c κs. search needs) returns-2 add-at-2 sub-left loop-less
+    sub-case-took part-case-took-start part-case-took-end (λ c κs. search needs) returns-2 add-at-2 sub-due loop-less
     loop-again returns-3)

@@ -1,5 +1,5 @@
--- `fill_labels` meets its contract: the loop's invariant is `Filling`: what is left of the groups, stored here, leaves what the whole
--- leaves; a turn stores the words of a label.
+-- `fill_labels` meets its contract: the loop's invariant is `Filling`: what is due of the groups, stored here, leaves what the whole
+-- leaves; a round stores the words of a label.
 use Prim.Native.Nat.{_+_, _≤_}
 use native.Mathlib.Omega.{arith}
 use mathlib.Core.List.{[], _∷_}
@@ -17,17 +17,17 @@ use Rattle.items.proofs.groups.fill_labels.Lts as lts
 use Rattle.numbers.proofs.seen_unsigned.Reads as seen-unsigned-reads
 
 abbrev Inv-loop : tie.InvT-loop
-Inv-loop input from n row₀ base at₀ to₀ left₀ row at to left =
-    Filling 1 input (field.Name ∷ field.Nothing ∷ []) n from row₀ base left at to row
+Inv-loop input from n row₀ base at₀ to₀ due₀ row at to due =
+    Filling 1 input (field.Name ∷ field.Nothing ∷ []) n from row₀ base due at to row
 
 abbrev μ-loop : tie.MeasureT-loop
-μ-loop input from n row₀ base at₀ to₀ left₀ row at to left = left
+μ-loop input from n row₀ base at₀ to₀ due₀ row at to due = due
 
--- in a turn, the next group has room
-abbrev Turn : Type 0
-Turn = lts.In-loop (seen-unsigned-reads.Asked, seen-unsigned-reads.Learnt) reads.Pre reads.Post Inv-loop μ-loop
+-- in a round, the next group has room
+abbrev Round : Type 0
+Round = lts.In-loop (seen-unsigned-reads.Asked, seen-unsigned-reads.Learnt) reads.Pre reads.Post Inv-loop μ-loop
 
-room : (c : Turn) → c .before .loop .to + 2 ≤ length (c .before .loop .row)
+room : (c : Round) → c .before .loop .to + 2 ≤ length (c .before .loop .row)
 room c = room-of (c .before .loop .inv) (c .loop-test .taken) 2 labels-wide
 
 loop-holds : tie.Need-loop-holds Inv-loop μ-loop
@@ -47,19 +47,19 @@ part-seen-unsigned-end c = omega (arith, c .before .loop .inv .inside)
 
 add-start : tie.Need-add-start Inv-loop μ-loop
 add-start c =
-    let turn = c .before .before .before in
-    let inv = turn .before .loop .inv in
-    let some = turn .loop-test .taken in
+    let round = c .before .before .before in
+    let inv = round .before .loop .inv in
+    let some = round .loop-test .taken in
     let name = named (filling-first inv some) (c .before .seen-unsigned .ensures) in
-    omega (arith, name .ends, turn .before .before .before .before .pre .0 .0)
+    omega (arith, name .ends, round .before .before .before .before .pre .0 .0)
 
 cast-row : tie.Need-cast-row Inv-loop μ-loop
 cast-row c =
-    let turn = c .before .before .before in
-    let inv = turn .before .loop .inv in
-    let some = turn .loop-test .taken in
+    let round = c .before .before .before in
+    let inv = round .before .loop .inv in
+    let some = round .loop-test .taken in
     let name = named (filling-first inv some) (c .before .seen-unsigned .ensures) in
-    omega (arith, name .ends, turn .before .before .before .before .pre .0 .0)
+    omega (arith, name .ends, round .before .before .before .before .pre .0 .0)
 
 mul-row : tie.Need-mul-row Inv-loop μ-loop
 mul-row c = omega (arith, room (c .before .before .before))
@@ -78,26 +78,26 @@ slice-write-row-2 c = let there = room (c .before .before .before) in simp lengt
 
 add-at : tie.Need-add-at Inv-loop μ-loop
 add-at c =
-    let turn = c .before .before .before .before in
-    let inv = turn .before .loop .inv in
-    let some = turn .loop-test .taken in
+    let round = c .before .before .before .before in
+    let inv = round .before .loop .inv in
+    let some = round .loop-test .taken in
     let name = named (filling-first inv some) (c .before .before .seen-unsigned .ensures) in
-    omega (arith, name .ends, turn .before .before .before .before .pre .0 .0)
+    omega (arith, name .ends, round .before .before .before .before .pre .0 .0)
 
 add-to : tie.Need-add-to Inv-loop μ-loop
 add-to c = omega (arith, room (c .before .before .before .before))
 
-sub-left : tie.Need-sub-left Inv-loop μ-loop
-sub-left c = omega arith
+sub-due : tie.Need-sub-due Inv-loop μ-loop
+sub-due c = omega arith
 
 loop-less : tie.Need-loop-less Inv-loop μ-loop
 loop-less c = omega arith
 
 loop-again : tie.Need-loop-again Inv-loop μ-loop
 loop-again c =
-    let turn = c .before .before .before .before in
-    let inv = turn .before .loop .inv in
-    let some = turn .loop-test .taken in
+    let round = c .before .before .before .before in
+    let inv = round .before .loop .inv in
+    let some = round .loop-test .taken in
     let name = named (filling-first inv some) (c .before .before .seen-unsigned .ensures) in
     label-next inv some name
 
@@ -112,4 +112,4 @@ fill-labels-spec =
     tie.close
     (tie.spec Inv-loop μ-loop loop-holds sub-seen-unsigned part-seen-unsigned-start part-seen-unsigned-end
     (λ c κs. search needs) add-start cast-row mul-row slice-write-row add-row mul-row-2 slice-write-row-2
-    (search needs) add-at add-to sub-left loop-less loop-again same-length returns)
+    (search needs) add-at add-to sub-due loop-less loop-again same-length returns)

@@ -1,5 +1,5 @@
--- `fill_values` meets its contract: the loop's invariant is `Filling`: what is left of the groups, stored here, leaves what the whole
--- leaves; a turn stores the words of a V, which is a short index or read as any V.
+-- `fill_values` meets its contract: the loop's invariant is `Filling`: what is due of the groups, stored here, leaves what the whole
+-- leaves; a round stores the words of a V, which is a short index or read as any V.
 use Prim.Native.Nat.{_+_, _≤_}
 use native.Mathlib.Omega.{arith}
 use mathlib.Core.List.{[], _∷_}
@@ -19,19 +19,19 @@ use Rattle.numbers.proofs.short_signed.Reads as short-signed-reads
 use Rattle.reading.proofs.value.Reads as value-reads
 
 abbrev Inv-loop : tie.InvT-loop
-Inv-loop grade input from n row₀ base at₀ to₀ left₀ row at to left =
-    Filling grade input (field.Value ∷ field.Nothing ∷ []) n from row₀ base left at to row
+Inv-loop grade input from n row₀ base at₀ to₀ due₀ row at to due =
+    Filling grade input (field.Value ∷ field.Nothing ∷ []) n from row₀ base due at to row
 
 abbrev μ-loop : tie.MeasureT-loop
-μ-loop grade input from n row₀ base at₀ to₀ left₀ row at to left = left
+μ-loop grade input from n row₀ base at₀ to₀ due₀ row at to due = due
 
--- in a turn, the next group has room
-abbrev Turn : Type 0
-Turn =
+-- in a round, the next group has room
+abbrev Round : Type 0
+Round =
     lts.In-loop (short-signed-reads.Asked, short-signed-reads.Learnt, value-reads.Asked, value-reads.Learnt)
     reads.Pre reads.Post Inv-loop μ-loop
 
-room : (c : Turn) → c .before .loop .to + 2 ≤ length (c .before .loop .row)
+room : (c : Round) → c .before .loop .to + 2 ≤ length (c .before .loop .row)
 room c = room-of (c .before .loop .inv) (c .loop-test .taken) 2 values-wide
 
 loop-holds : tie.Need-loop-holds Inv-loop μ-loop
@@ -66,11 +66,11 @@ slice-write-row-2 c = let there = room (c .before .before .before) in simp lengt
 
 add-at : tie.Need-add-at Inv-loop μ-loop
 add-at c =
-    let turn = c .before .before .before in
-    let inv = turn .before .loop .inv in
-    let some = turn .loop-test .taken in
+    let round = c .before .before .before in
+    let inv = round .before .loop .inv in
+    let some = round .loop-test .taken in
     let one = short-paired (filling-first inv some) (c .before .short-signed .ensures) (c .if1 .taken) in
-    omega (arith, one .ends, turn .before .before .before .before .pre .0 .0)
+    omega (arith, one .ends, round .before .before .before .before .pre .0 .0)
 
 sub-value : tie.Need-sub-value Inv-loop μ-loop
 sub-value c = omega (arith, c .before .before .before .before .loop .inv .inside)
@@ -98,26 +98,26 @@ slice-write-row-4 c = let there = room (c .before .before .before .before .befor
 
 add-at-2 : tie.Need-add-at-2 Inv-loop μ-loop
 add-at-2 c =
-    let turn = c .before .before .before .before .before .before in
-    let inv = turn .before .loop .inv in
-    let some = turn .loop-test .taken in
+    let round = c .before .before .before .before .before .before in
+    let inv = round .before .loop .inv in
+    let some = round .loop-test .taken in
     let one = value-paired (filling-first inv some) (c .before .value .ensures) in
-    omega (arith, one .ends, turn .before .before .before .before .pre .0 .0)
+    omega (arith, one .ends, round .before .before .before .before .pre .0 .0)
 
 add-to : tie.Need-add-to Inv-loop μ-loop
 add-to c = omega (arith, room (c .before .before .before))
 
-sub-left : tie.Need-sub-left Inv-loop μ-loop
-sub-left c = omega arith
+sub-due : tie.Need-sub-due Inv-loop μ-loop
+sub-due c = omega arith
 
 loop-less : tie.Need-loop-less Inv-loop μ-loop
 loop-less c = omega arith
 
 loop-again : tie.Need-loop-again Inv-loop μ-loop
 loop-again c =
-    let turn = c .before .before .before in
-    let inv = turn .before .loop .inv in
-    let some = turn .loop-test .taken in
+    let round = c .before .before .before in
+    let inv = round .before .loop .inv in
+    let some = round .loop-test .taken in
     let stands = filling-first inv some in
     ⊎-elim
     (λ w. filling-now (value-next inv some (short-paired stands (c .before .short-signed .ensures) (w .0 .taken))) (w .1) (w .2))
@@ -136,4 +136,4 @@ fill-values-spec =
     (tie.spec Inv-loop μ-loop loop-holds sub-short-signed part-short-signed-start part-short-signed-end
     (λ c κs. search needs) mul-row slice-write-row add-row mul-row-2 slice-write-row-2 add-at sub-value
     part-value-start part-value-end (λ c κs. search needs) mul-row-3 slice-write-row-3 add-row-2 mul-row-4
-    slice-write-row-4 add-at-2 add-to sub-left loop-less loop-again same-length returns)
+    slice-write-row-4 add-at-2 add-to sub-due loop-less loop-again same-length returns)

@@ -1,4 +1,4 @@
--- `labels_end` meets its contract: the labels that are left end where all of them do (`Going`), and each step says whether its label is
+-- `labels_end` meets its contract: the labels that are due end where all of them do (`Going`), and each step says whether its label is
 -- right (`name-some`, `name-none`).
 use native.Mathlib.Omega.{arith}
 use denote.Ref.{now}
@@ -11,10 +11,10 @@ use Rattle.items.proofs.groups.labels_end.Statement.{statement}
 use Rattle.items.proofs.groups.labels_end.Tie as tie
 
 abbrev Inv-loop : tie.InvT-loop
-Inv-loop input from n at₀ left₀ at left = Going 1 input (field.Name ∷ field.Nothing ∷ []) n from left at
+Inv-loop input from n at₀ due₀ at due = Going 1 input (field.Name ∷ field.Nothing ∷ []) n from due at
 
 abbrev μ-loop : tie.MeasureT-loop
-μ-loop input from n at₀ left₀ at left = left
+μ-loop input from n at₀ due₀ at due = due
 
 loop-holds : tie.Need-loop-holds Inv-loop μ-loop
 loop-holds c = going-start (c .before .pre .1) (c .before .pre .2)
@@ -43,8 +43,8 @@ add-at c =
     let one = name-some 1 (now (args .input)) (loop .at) (c .before .name .ensures) (c .if1 .left) in
     omega (arith, one .1, loop .inv .inside, pre .0)
 
-sub-left : tie.Need-sub-left Inv-loop μ-loop
-sub-left c = omega (arith, c .before .before .before .loop-test .taken)
+sub-due : tie.Need-sub-due Inv-loop μ-loop
+sub-due c = omega (arith, c .before .before .before .loop-test .taken)
 
 loop-less : tie.Need-loop-less Inv-loop μ-loop
 loop-less c = omega (arith, c .before .before .before .loop-test .taken)
@@ -63,4 +63,4 @@ pub labels-end-spec : {M : Type 1} → statement M
 labels-end-spec =
     tie.close
     (tie.spec Inv-loop μ-loop loop-holds sub-name part-name-start part-name-end (λ c κs. search needs) returns add-at
-    sub-left loop-less loop-again returns-2)
+    sub-due loop-less loop-again returns-2)

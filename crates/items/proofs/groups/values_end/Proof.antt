@@ -1,4 +1,4 @@
--- `values_end` meets its contract: the Vs that are left end where all of them do (`Going`); a V is right where a short number is seen
+-- `values_end` meets its contract: the Vs that are due end where all of them do (`Going`); a V is right where a short number is seen
 -- (`value-short`) or its step took bytes (`value-some`).
 use Prim.Native.Nat.{_+_}
 use native.Mathlib.Omega.{arith}
@@ -13,10 +13,10 @@ use Rattle.items.proofs.groups.values_end.Statement.{statement}
 use Rattle.items.proofs.groups.values_end.Tie as tie
 
 abbrev Inv-loop : tie.InvT-loop
-Inv-loop grade input from n at₀ left₀ at left = Going grade input (field.Value ∷ field.Nothing ∷ []) n from left at
+Inv-loop grade input from n at₀ due₀ at due = Going grade input (field.Value ∷ field.Nothing ∷ []) n from due at
 
 abbrev μ-loop : tie.MeasureT-loop
-μ-loop grade input from n at₀ left₀ at left = left
+μ-loop grade input from n at₀ due₀ at due = due
 
 loop-holds : tie.Need-loop-holds Inv-loop μ-loop
 loop-holds c = going-start (c .before .pre .1) (c .before .pre .2)
@@ -69,8 +69,8 @@ add-at-2 c =
     omega (arith, one .1, w .1, loop .inv .inside, pre .0))
     (c .before .if1 .came)
 
-sub-left : tie.Need-sub-left Inv-loop μ-loop
-sub-left c = omega (arith, c .before .before .before .before .loop-test .taken)
+sub-due : tie.Need-sub-due Inv-loop μ-loop
+sub-due c = omega (arith, c .before .before .before .before .loop-test .taken)
 
 loop-less : tie.Need-loop-less Inv-loop μ-loop
 loop-less c = omega (arith, c .before .before .before .before .loop-test .taken)
@@ -99,4 +99,4 @@ values-end-spec =
     tie.close
     (tie.spec Inv-loop μ-loop loop-holds sub-short-signed part-short-signed-start part-short-signed-end
     (λ c κs. search needs) sub-value part-value-start part-value-end (λ c κs. search needs) returns add-at add-at-2
-    sub-left loop-less loop-again returns-2)
+    sub-due loop-less loop-again returns-2)

@@ -38,7 +38,7 @@ slot-at-requires-3 c κs =
     let input = now (a .input) in
     let one = c .before .before .before .before .before .slot-at .result in
     let i = slot-inside 0 input (a .at) (a .count) one (c .before .before .before .before .before .slot-at .ensures) (s .pre .2) (c .before .before .before .if1 .left) in
-    let j = slot-inside 1 input (one .next) (one .left) (c .before .before .slot-at2 .result) (c .before .before .slot-at2 .ensures) (i .1) (c .if2 .left) in
+    let j = slot-inside 1 input (one .next) (one .due) (c .before .before .slot-at2 .result) (c .before .before .slot-at2 .ensures) (i .1) (c .if2 .left) in
     (s .pre .0, j .0, j .1)
 
 returns-3 : tie.Need-returns-3

@@ -13,14 +13,14 @@ returns c =
     let s = c .before .before .before in
     let a = s .args in
     let input = now (a .input) in
-    slot-done (a .k) input (a .at) (a .left) (s .pre .1) (c .before .if1 .taken) (c .no-slot .ensures)
+    slot-done (a .k) input (a .at) (a .due) (s .pre .1) (c .before .if1 .taken) (c .no-slot .ensures)
 
 returns-2 : tie.Need-returns-2
 returns-2 c =
     let s = c .before .before .before .before in
     let a = s .args in
     let input = now (a .input) in
-    slot-cut (a .k) input (a .at) (a .left) (c .before .before .if1 .left) (c .before .if2 .taken) (c .no-slot2 .ensures)
+    slot-cut (a .k) input (a .at) (a .due) (c .before .before .if1 .left) (c .before .if2 .taken) (c .no-slot2 .ensures)
 
 returns-3 : tie.Need-returns-3
 returns-3 c =
@@ -29,7 +29,7 @@ returns-3 c =
     let input = now (a .input) in
     let m = c .before .before in
     let n = part-string input (a .at + 1) (m .name .result) (m .name .ensures) in
-    slot-wrong (a .k) input (a .at) (a .left) (m .before .before .before .before .before .if1 .left) (m .before .before .before .before .if2 .left) (m .before .before .if3 .taken) (m .name .result) n
+    slot-wrong (a .k) input (a .at) (a .due) (m .before .before .before .before .before .if1 .left) (m .before .before .before .before .if2 .left) (m .before .before .if3 .taken) (m .name .result) n
     (c .before .if4 .taken) (c .no-slot3 .ensures)
 
 add-t13 : tie.Need-add-t13
@@ -60,14 +60,14 @@ returns-4 c =
     let m = c .before .before in
     let n = part-string input (a .at + 1) (m .name .result) (m .name .ensures) in
     let some : 0 < m .name .result .took = omega (arith, c .before .if4 .left) in
-    slot-right (a .k) input (a .at) (a .left) (m .before .before .before .before .before .if1 .left) (m .before .before .before .before .if2 .left) (m .before .before .if3 .taken) (m .name .result) n some
+    slot-right (a .k) input (a .at) (a .due) (m .before .before .before .before .before .if1 .left) (m .before .before .before .before .if2 .left) (m .before .before .if3 .taken) (m .name .result) n some
 
 returns-5 : tie.Need-returns-5
 returns-5 c =
     let s = c .before .before .before .before .before .before in
     let a = s .args in
     let input = now (a .input) in
-    slot-other (a .k) input (a .at) (a .left) (c .before .before .before .before .if1 .left) (c .before .before .before .if2 .left) (s .pre .1) (c .before .if3 .left) (c .no-slot4 .ensures)
+    slot-other (a .k) input (a .at) (a .due) (c .before .before .before .before .if1 .left) (c .before .before .before .if2 .left) (s .pre .1) (c .before .if3 .left) (c .no-slot4 .ensures)
 
 pub slot-at-spec : {M : Type 1} → statement M
 slot-at-spec =

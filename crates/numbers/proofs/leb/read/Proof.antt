@@ -1,4 +1,4 @@
--- `numbers::read` meets its contract. The loop's invariant is `Begun` of `proofs/Reading.antt`, which has a law for each way out of a turn.
+-- `numbers::read` meets its contract. The loop's invariant is `Begun` of `proofs/Reading.antt`, which has a law for each way out of a round.
 -- Assumes nothing.
 use Prim.Native.Nat.{ℕ, _+_, _-_, _*_, _^_, _≤_, _<_}
 use native.Mathlib.Omega.{arith}
@@ -16,7 +16,7 @@ Inv-loop input end i₀ low₀ scale₀ least₀ i low scale least = Begun input
 abbrev μ-loop : tie.MeasureT-loop
 μ-loop input end i₀ low₀ scale₀ least₀ i low scale least = 5 - i
 
--- in a turn: the byte at i, its bound, and what is at most 128, scaled, with what the bytes before come to
+-- in a round: the byte at i, its bound, and what is at most 128, scaled, with what the bytes before come to
 abbrev b : tie.In-loop Inv-loop μ-loop → ℕ
 b c = getD (c .before .before .args .input .now) (c .before .loop .i) 0
 

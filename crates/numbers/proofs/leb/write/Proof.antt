@@ -1,4 +1,4 @@
--- `numbers::write` meets its contract. The loop's invariant: what is left to write, written where the loop stands, leaves what the whole
+-- `numbers::write` meets its contract. The loop's invariant: what is still to be written, put where the loop stands, leaves what the whole
 -- leaves. Assumes nothing.
 use Prim.Native.Nat.{ℕ, suc, _+_, _≤_, _<_}
 use mathlib.Core.Path.{_≡_, refl, sym, ap, _∙_}
@@ -8,7 +8,7 @@ use native.Mathlib.Numerals.{add-one}
 use lib.ListN.{length, length-set}
 use lib.Seq.{sets}
 use Rattle.numbers.specs.Leb.{bytesOf}
-use Rattle.numbers.proofs.Shortest.{room, Turn, turn, bytes-last}
+use Rattle.numbers.proofs.Shortest.{room, Round, round, bytes-last}
 use Rattle.numbers.proofs.leb.write.Statement.{statement}
 use Rattle.numbers.proofs.leb.write.Tie as tie
 use Rattle.numbers.proofs.leb.write.Reads as reads
@@ -30,9 +30,9 @@ abbrev μ-loop : tie.MeasureT-loop
 loop-holds : tie.Need-loop-holds Inv-loop μ-loop
 loop-holds c = record { k = 4; fits = omega arith; goal = refl; sum = refl; same = refl }
 
--- a turn, and the last byte
-turned : (c : tie.In-loop Inv-loop μ-loop) → Turn (c .before .before .args .end) (c .before .loop .inv .k) (c .before .loop .rest)
-turned c = turn (c .before .before .args .end) (c .before .loop .inv .k) (c .before .loop .rest) (c .loop-test .taken) (c .before .loop .inv .fits)
+-- a round, and the last byte
+this-round : (c : tie.In-loop Inv-loop μ-loop) → Round (c .before .before .args .end) (c .before .loop .inv .k) (c .before .loop .rest)
+this-round c = round (c .before .before .args .end) (c .before .loop .inv .k) (c .before .loop .rest) (c .loop-test .taken) (c .before .loop .inv .fits)
 
 last : (c : tie.After-loop Inv-loop μ-loop)
     → bytesOf (c .before .before .args .end) (suc (c .before .loop .inv .k)) (c .before .loop .rest) ≡ c .before .loop .rest ∷ []
@@ -45,10 +45,10 @@ cast-out : tie.Need-cast-out Inv-loop μ-loop
 cast-out c = omega arith
 
 slice-write-out : tie.Need-slice-write-out Inv-loop μ-loop
-slice-write-out c = omega (arith, ap length (turned c .step))
+slice-write-out c = omega (arith, ap length (this-round c .step))
 
 add-i : tie.Need-add-i Inv-loop μ-loop
-add-i c = omega (arith, ap length (turned c .step))
+add-i c = omega (arith, ap length (this-round c .step))
 
 loop-less : tie.Need-loop-less Inv-loop μ-loop
 loop-less c = omega arith
@@ -56,9 +56,9 @@ loop-less c = omega arith
 loop-again : tie.Need-loop-again Inv-loop μ-loop
 loop-again c =
     let v = c .before .loop .inv in
-    let t = turned c in
+    let t = this-round c in
     record {
-      k = t .left;
+      k = t .due;
       fits = t .fits;
       goal = rw add-one (rw (t .step) at (v .goal));
       sum = omega (arith, ap length (t .step));

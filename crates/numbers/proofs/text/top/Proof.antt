@@ -1,4 +1,4 @@
--- `numbers::text::top` meets its contract. The loop's invariant: no byte passed is above `high`. `below-next` is a turn.
+-- `numbers::text::top` meets its contract. The loop's invariant: no byte passed is above `high`. `below-next` is a round.
 use Prim.Native.Nat.{_+_, _-_, _≤_}
 use native.Mathlib.Omega.{arith}
 use mathlib.Core.Logic.{⊎-elim}

@@ -1,12 +1,12 @@
--- `numbers::text::well_formed` meets its contract. The loop's invariant: the name is text if what is left of it is what has to follow.
--- A turn is `turn-next` or `turn-bad`, and `turns-end` is the end.
+-- `numbers::text::well_formed` meets its contract. The loop's invariant: the name is text if what is to come of it is what has to follow.
+-- A round is `round-next` or `round-bad`, and `rounds-end` is the end.
 use Prim.Native.Nat.{_-_}
 use mathlib.Core.Path.{_≡_, refl, sym, _∙_}
 use borrow.Author.Needs.{needs}
 use native.Mathlib.Omega.{arith}
 use lib.ListN.{length, drop}
 use Rattle.numbers.specs.Text.{text, rest}
-use Rattle.numbers.proofs.TextRows.{turn-bad, turn-next, turns-end}
+use Rattle.numbers.proofs.TextRows.{round-bad, round-next, rounds-end}
 use Rattle.numbers.proofs.text.well_formed.Statement.{statement}
 use Rattle.numbers.proofs.text.well_formed.Tie as tie
 
@@ -26,9 +26,9 @@ shared-slice-read-after c = omega arith
 returns : tie.Need-returns Inv-loop μ-loop
 returns c =
     let called = c .before .before in
-    let turn = called .before .before in
-    let v = turn .before .loop in
-    sym (v .inv ∙ turn-bad _ _ _ (turn .before .before .before .args .name .now) _ (turn .loop-test .taken)
+    let round = called .before .before in
+    let v = round .before .loop in
+    sym (v .inv ∙ round-bad _ _ _ (round .before .before .before .args .name .now) _ (round .loop-test .taken)
     (sym (called .after .ensures) ∙ c .enum-told .given .1))
 
 add-i : tie.Need-add-i Inv-loop μ-loop
@@ -40,13 +40,13 @@ loop-less c = omega arith
 loop-again : tie.Need-loop-again Inv-loop μ-loop
 loop-again c =
     let called = c .before .before .before in
-    let turn = called .before .before in
-    let v = turn .before .loop in
-    v .inv ∙ turn-next _ _ _ (turn .before .before .before .args .name .now) _ _ _ _ (turn .loop-test .taken)
+    let round = called .before .before in
+    let v = round .before .loop in
+    v .inv ∙ round-next _ _ _ (round .before .before .before .args .name .now) _ _ _ _ (round .loop-test .taken)
     (sym (called .after .ensures) ∙ c .before .n .given .1)
 
 returns-2 : tie.Need-returns-2 Inv-loop μ-loop
-returns-2 c = sym (c .before .loop .inv ∙ turns-end _ _ _ (c .before .before .before .args .name .now) _ (c .loop-test .left))
+returns-2 c = sym (c .before .loop .inv ∙ rounds-end _ _ _ (c .before .before .before .args .name .now) _ (c .loop-test .left))
 
 pub well-formed-spec : {M : Type 1} → statement M
 well-formed-spec =

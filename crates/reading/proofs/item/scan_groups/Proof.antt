@@ -1,5 +1,5 @@
--- `scan_groups` meets its contract. The loop's invariant is `Walked`: the walk over the groups that are left, from here, is the whole;
--- the place stays inside the input, and a group makes 22 words at most. The measure is how many are left.
+-- `scan_groups` meets its contract. The loop's invariant is `Walked`: the walk over the groups that are due, from here, is the whole;
+-- the place stays inside the input, and a group makes 22 words at most. The measure is how many are due.
 use Prim.Native.Nat.{_+_, _-_, _*_, _≤_}
 use native.Mathlib.Omega.{arith}
 use denote.Ref.{now}

@@ -1,4 +1,4 @@
--- `telling::say_bytes` meets its contract: each turn leaves less of the bytes, and the place comes to their end.
+-- `telling::say_bytes` meets its contract: each round leaves less of the bytes, and the place comes to their end.
 use Prim.Native.Nat.{_-_, _≤_}
 use borrow.Author.Needs.{needs}
 use lib.ListN.{length}

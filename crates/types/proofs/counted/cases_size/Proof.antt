@@ -13,12 +13,12 @@ use Rattle.types.proofs.counted.cases_size.Statement.{statement}
 use Rattle.types.proofs.counted.cases_size.Tie as tie
 
 abbrev Inv-loop : tie.InvT-loop
-Inv-loop row from n pool base at₀ made₀ left₀ at made left =
-    Going pool (field.Name ∷ field.OptionalThenZero ∷ []) (case pool) 65548 row from n base left at made
-    × ((at + left * 4 ≡ from + n * 4) × (made + left * 65548 ≤ base + n * 65548))
+Inv-loop row from n pool base at₀ made₀ due₀ at made due =
+    Going pool (field.Name ∷ field.OptionalThenZero ∷ []) (case pool) 65548 row from n base due at made
+    × ((at + due * 4 ≡ from + n * 4) × (made + due * 65548 ≤ base + n * 65548))
 
 abbrev μ-loop : tie.MeasureT-loop
-μ-loop row from n pool base at₀ made₀ left₀ at made left = left
+μ-loop row from n pool base at₀ made₀ due₀ at made due = due
 
 loop-holds : tie.Need-loop-holds Inv-loop μ-loop
 loop-holds c =
@@ -72,7 +72,7 @@ loop-again c =
     (k, (omega arith, k .small))
 
 returns-3 : tie.Need-returns-3 Inv-loop μ-loop
-returns-3 c = (λ h. going-end (c .before .loop .left) (c .before .loop .inv .0) (c .loop-test .left), omega arith)
+returns-3 c = (λ h. going-end (c .before .loop .due) (c .before .loop .inv .0) (c .loop-test .left), omega arith)
 
 pub cases-size-spec : {M : Type 1} → statement M
 cases-size-spec =

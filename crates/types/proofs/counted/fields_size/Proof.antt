@@ -15,12 +15,12 @@ use Rattle.types.proofs.counted.fields_size.Statement.{statement}
 use Rattle.types.proofs.counted.fields_size.Tie as tie
 
 abbrev Inv-loop : tie.InvT-loop
-Inv-loop row from n pool base at₀ made₀ left₀ at made left =
-    Going pool (field.Name ∷ field.Value ∷ []) (labelvaltype pool) 65546 row from n base left at made
-    × ((at + left * 4 ≡ from + n * 4) × (made + left * 65546 ≤ base + n * 65546))
+Inv-loop row from n pool base at₀ made₀ due₀ at made due =
+    Going pool (field.Name ∷ field.Value ∷ []) (labelvaltype pool) 65546 row from n base due at made
+    × ((at + due * 4 ≡ from + n * 4) × (made + due * 65546 ≤ base + n * 65546))
 
 abbrev μ-loop : tie.MeasureT-loop
-μ-loop row from n pool base at₀ made₀ left₀ at made left = left
+μ-loop row from n pool base at₀ made₀ due₀ at made due = due
 
 loop-holds : tie.Need-loop-holds Inv-loop μ-loop
 loop-holds c =
@@ -77,7 +77,7 @@ loop-again c =
     (k, (omega arith, k .small))
 
 returns-3 : tie.Need-returns-3 Inv-loop μ-loop
-returns-3 c = (λ h. going-end (c .before .loop .left) (c .before .loop .inv .0) (c .loop-test .left), omega arith)
+returns-3 c = (λ h. going-end (c .before .loop .due) (c .before .loop .inv .0) (c .loop-test .left), omega arith)
 
 pub fields-size-spec : {M : Type 1} → statement M
 fields-size-spec =

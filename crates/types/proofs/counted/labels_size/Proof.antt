@@ -13,12 +13,12 @@ use Rattle.types.proofs.counted.labels_size.Statement.{statement}
 use Rattle.types.proofs.counted.labels_size.Tie as tie
 
 abbrev Inv-loop : tie.InvT-loop
-Inv-loop row from n pool base at₀ made₀ left₀ at made left =
-    Going pool (field.Name ∷ field.Nothing ∷ []) (label pool) 65541 row from n base left at made
-    × ((at + left * 2 ≡ from + n * 2) × (made + left * 65541 ≤ base + n * 65541))
+Inv-loop row from n pool base at₀ made₀ due₀ at made due =
+    Going pool (field.Name ∷ field.Nothing ∷ []) (label pool) 65541 row from n base due at made
+    × ((at + due * 2 ≡ from + n * 2) × (made + due * 65541 ≤ base + n * 65541))
 
 abbrev μ-loop : tie.MeasureT-loop
-μ-loop row from n pool base at₀ made₀ left₀ at made left = left
+μ-loop row from n pool base at₀ made₀ due₀ at made due = due
 
 loop-holds : tie.Need-loop-holds Inv-loop μ-loop
 loop-holds c =
@@ -48,7 +48,7 @@ loop-again c =
     (k, (omega arith, k .small))
 
 returns-2 : tie.Need-returns-2 Inv-loop μ-loop
-returns-2 c = (λ h. going-end (c .before .loop .left) (c .before .loop .inv .0) (c .loop-test .left), omega arith)
+returns-2 c = (λ h. going-end (c .before .loop .due) (c .before .loop .inv .0) (c .loop-test .left), omega arith)
 
 pub labels-size-spec : {M : Type 1} → statement M
 labels-size-spec =

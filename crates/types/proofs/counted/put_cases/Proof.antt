@@ -15,11 +15,11 @@ use Rattle.types.proofs.counted.put_cases.Statement.{statement}
 use Rattle.types.proofs.counted.put_cases.Tie as tie
 
 abbrev Inv-loop : tie.InvT-loop
-Inv-loop row from n pool out₀ base at₀ to₀ left₀ out at to left =
-    Putting pool (field.Name ∷ field.OptionalThenZero ∷ []) (case pool) row from n out₀ base left at to out × (at + left * 4 ≡ from + n * 4)
+Inv-loop row from n pool out₀ base at₀ to₀ due₀ out at to due =
+    Putting pool (field.Name ∷ field.OptionalThenZero ∷ []) (case pool) row from n out₀ base due at to out × (at + due * 4 ≡ from + n * 4)
 
 abbrev μ-loop : tie.MeasureT-loop
-μ-loop row from n pool out₀ base at₀ to₀ left₀ out at to left = left
+μ-loop row from n pool out₀ base at₀ to₀ due₀ out at to due = due
 
 loop-holds : tie.Need-loop-holds Inv-loop μ-loop
 loop-holds c =
@@ -95,7 +95,7 @@ same-length c = c .before .loop .inv .0 .same
 
 returns : tie.Need-returns Inv-loop μ-loop
 unfolding widths wide
-returns c = putting-end (c .before .loop .left) (c .before .loop .inv .0) (c .loop-test .left) .content
+returns c = putting-end (c .before .loop .due) (c .before .loop .inv .0) (c .loop-test .left) .content
 
 pub put-cases-spec : {M : Type 1} → statement M
 put-cases-spec =

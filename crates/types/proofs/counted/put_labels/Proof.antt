@@ -15,11 +15,11 @@ use Rattle.types.proofs.counted.put_labels.Statement.{statement}
 use Rattle.types.proofs.counted.put_labels.Tie as tie
 
 abbrev Inv-loop : tie.InvT-loop
-Inv-loop row from n pool out₀ base at₀ to₀ left₀ out at to left =
-    Putting pool (field.Name ∷ field.Nothing ∷ []) (label pool) row from n out₀ base left at to out × (at + left * 2 ≡ from + n * 2)
+Inv-loop row from n pool out₀ base at₀ to₀ due₀ out at to due =
+    Putting pool (field.Name ∷ field.Nothing ∷ []) (label pool) row from n out₀ base due at to out × (at + due * 2 ≡ from + n * 2)
 
 abbrev μ-loop : tie.MeasureT-loop
-μ-loop row from n pool out₀ base at₀ to₀ left₀ out at to left = left
+μ-loop row from n pool out₀ base at₀ to₀ due₀ out at to due = due
 
 loop-holds : tie.Need-loop-holds Inv-loop μ-loop
 loop-holds c =
@@ -58,7 +58,7 @@ same-length c = c .before .loop .inv .0 .same
 
 returns : tie.Need-returns Inv-loop μ-loop
 unfolding widths wide
-returns c = putting-end (c .before .loop .left) (c .before .loop .inv .0) (c .loop-test .left) .content
+returns c = putting-end (c .before .loop .due) (c .before .loop .inv .0) (c .loop-test .left) .content
 
 pub put-labels-spec : {M : Type 1} → statement M
 put-labels-spec =

@@ -16,12 +16,12 @@ use Rattle.types.proofs.counted.put_values.Statement.{statement}
 use Rattle.types.proofs.counted.put_values.Tie as tie
 
 abbrev Inv-loop : tie.InvT-loop
-Inv-loop row from n out₀ base at₀ to₀ left₀ out at to left =
-    Putting [] (field.Index ∷ field.Index ∷ []) (λ ws. valtype (word ws 0) (word ws 1)) row from n out₀ base left at to out
-    × (at + left * 2 ≡ from + n * 2)
+Inv-loop row from n out₀ base at₀ to₀ due₀ out at to due =
+    Putting [] (field.Index ∷ field.Index ∷ []) (λ ws. valtype (word ws 0) (word ws 1)) row from n out₀ base due at to out
+    × (at + due * 2 ≡ from + n * 2)
 
 abbrev μ-loop : tie.MeasureT-loop
-μ-loop row from n out₀ base at₀ to₀ left₀ out at to left = left
+μ-loop row from n out₀ base at₀ to₀ due₀ out at to due = due
 
 loop-holds : tie.Need-loop-holds Inv-loop μ-loop
 loop-holds c =
@@ -59,7 +59,7 @@ same-length c = c .before .loop .inv .0 .same
 
 returns : tie.Need-returns Inv-loop μ-loop
 unfolding widths wide
-returns c = putting-end (c .before .loop .left) (c .before .loop .inv .0) (c .loop-test .left) .content
+returns c = putting-end (c .before .loop .due) (c .before .loop .inv .0) (c .loop-test .left) .content
 
 pub put-values-spec : {M : Type 1} → statement M
 put-values-spec =

@@ -15,12 +15,12 @@ use Rattle.types.proofs.counted.values_size.Statement.{statement}
 use Rattle.types.proofs.counted.values_size.Tie as tie
 
 abbrev Inv-loop : tie.InvT-loop
-Inv-loop row from n base at₀ made₀ left₀ at made left =
-    ((pool : List ℕ) → Going pool (field.Value ∷ field.Nothing ∷ []) (λ ws. valtype (word ws 0) (word ws 1)) 5 row from n base left at made)
-    × ((at + left * 2 ≡ from + n * 2) × (made + left * 5 ≤ base + n * 5))
+Inv-loop row from n base at₀ made₀ due₀ at made due =
+    ((pool : List ℕ) → Going pool (field.Value ∷ field.Nothing ∷ []) (λ ws. valtype (word ws 0) (word ws 1)) 5 row from n base due at made)
+    × ((at + due * 2 ≡ from + n * 2) × (made + due * 5 ≤ base + n * 5))
 
 abbrev μ-loop : tie.MeasureT-loop
-μ-loop row from n base at₀ made₀ left₀ at made left = left
+μ-loop row from n base at₀ made₀ due₀ at made due = due
 
 loop-holds : tie.Need-loop-holds Inv-loop μ-loop
 loop-holds c =
@@ -50,7 +50,7 @@ loop-again c =
     (λ pool. value-next (loop .inv .0 pool) h e some, (omega arith, value-next (loop .inv .0 []) h e some .small))
 
 returns-2 : tie.Need-returns-2 Inv-loop μ-loop
-returns-2 c = (λ h pool. going-end (c .before .loop .left) (c .before .loop .inv .0 pool) (c .loop-test .left), omega arith)
+returns-2 c = (λ h pool. going-end (c .before .loop .due) (c .before .loop .inv .0 pool) (c .loop-test .left), omega arith)
 
 pub values-size-spec : {M : Type 1} → statement M
 values-size-spec =

@@ -1,4 +1,4 @@
--- `unsheet::entry::say_counted` is safe and ends: the units left become fewer.
+-- `unsheet::entry::say_counted` is safe and ends: the units due become fewer.
 use Prim.Native.Nat.{_-_}
 use borrow.Author.Needs.{needs}
 use Rattle.unsheet.proofs.entry.say_counted.Statement.{statement}

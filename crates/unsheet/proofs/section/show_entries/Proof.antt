@@ -1,4 +1,4 @@
--- `unsheet::section::show_entries` is safe and ends: the row keeps its length, and the entries left become fewer.
+-- `unsheet::section::show_entries` is safe and ends: the row keeps its length, and the entries due become fewer.
 use Prim.Native.Nat.{_-_}
 use mathlib.Core.Path.{_≡_}
 use lib.ListN.{length}

@@ -1,4 +1,4 @@
--- `vectors::lent::load` is safe and ends: the row keeps its length, the place stays within the bytes, and the words left become fewer.
+-- `vectors::lent::load` is safe and ends: the row keeps its length, the place stays within the bytes, and the words due become fewer.
 use Prim.Native.Nat.{_≤_, _-_}
 use mathlib.Core.Path.{_≡_}
 use lib.ListN.{length}

@@ -1,4 +1,4 @@
--- `vectors::lent::store` is safe and ends: the bytes keep their number, and the places left become fewer.
+-- `vectors::lent::store` is safe and ends: the bytes keep their number, and the places due become fewer.
 use Prim.Native.Nat.{_-_}
 use mathlib.Core.Path.{_≡_}
 use lib.ListN.{length}

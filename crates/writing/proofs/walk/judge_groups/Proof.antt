@@ -1,5 +1,5 @@
--- `writing::walk::judge_groups` meets its contract. The loop's invariant is `Groups`: the walk over the groups that are left, from here,
--- is the whole. The measure is how many are left.
+-- `writing::walk::judge_groups` meets its contract. The loop's invariant is `Groups`: the walk over the groups that are due, from here,
+-- is the whole. The measure is how many are due.
 use Prim.Native.Nat.{_-_}
 use native.Mathlib.Nat.{mul-le-mul-right}
 use native.Mathlib.Omega.{arith}
