@@ -1,4 +1,5 @@
-/* The C interface of the library: sections, steps, sheets and readings of WebAssembly component types, imports and canonicals.
+/* The C interface of the library: sections, steps, sheets and readings of WebAssembly component types, imports,
+ * canonicals and instances.
  *
  * Build the library with `rt staticlib cabi`, which writes target/staticlib/libcabi.a, and link it.
  * Every call takes every input and returns. A refusal changes no buffer and no state.
@@ -40,7 +41,7 @@ typedef struct {
     uint64_t value;
 } tb_reply;
 
-/* A section's state is five numbers: family (7 types, 8 canonicals, 10 imports), bytes of the body used, entries,
+/* A section's state is five numbers: family (2 core instances, 5 instances, 7 types, 8 canonicals, 10 imports), bytes of the body used, entries,
  * phase (0 closed, 1 opened, 2 async given, 3 params given), and the place where an open function starts (0 when closed).
  * A new section is { family, 0, 0, 0, 0 }. */
 

@@ -95,7 +95,7 @@ def name(pool, start, length):
 
 
 def extern_name(pool, words):
-    """The name and the three options of an import."""
+    """A name and its three options."""
     plain = name(pool, words[0], words[1])
     options = []
     for k in range(3):
@@ -122,6 +122,18 @@ def reference(sort, x, y):
     return bytes([sort]) + unsigned(x) + zero(y)
 
 
+def core_item(kind, index):
+    """The kind and the index of a core item."""
+    one_of(kind, range(5))
+    return bytes([kind]) + unsigned(index)
+
+
+def sorted_index(sort, index):
+    """A sort and an index: a core module's sort is 00 11, another's its byte."""
+    one_of(sort, range(6))
+    return (bytes([sort]) if sort else b'\0\x11') + unsigned(index)
+
+
 def option(k, x):
     """An option of a canonical."""
     one_of(k, range(10))
@@ -141,6 +153,9 @@ FIELDS = {
     'D': (2, lambda pool, w: destructor(*w)),
     'N': (2, lambda pool, w: name(pool, *w)),
     'K': (2, lambda pool, w: option(*w)),
+    'A': (1, lambda pool, w: b'\x12' + unsigned(w[0])),
+    'C': (2, lambda pool, w: core_item(*w)),
+    'S': (2, lambda pool, w: sorted_index(*w)),
     'R': (3, lambda pool, w: reference(*w)),
     'E': (11, lambda pool, w: extern_name(pool, w)),
     'Z': (0, lambda pool, w: b'\0'),
@@ -161,10 +176,14 @@ for fields, leads in LEADS.items():
 SHAPES |= {256 + 0x0f: ('0f', 'i', 'K', ''), 256 + 0x16: ('16', 'i', 'K', ''), 256 + 0x01: ('01', 'Zi', 'K', ''),
            256: ('00', 'Zii', 'K', '')}
 LIFT = 256
+# Core and component instantiation, core and component items.
+INSTANCE_SHAPES = {18: ('00', 'i', 'NA', ''), 19: ('00', 'i', 'NS', ''), 20: ('01', '', 'NC', ''), 21: ('01', '', 'ES', '')}
+FIRST_SHAPES = dict(SHAPES)
+SHAPES |= INSTANCE_SHAPES
 
 
 def family_of(kind):
-    return 7 if kind < 17 else 10 if kind == 17 else 8
+    return 7 if kind < 17 else {17: 10, 18: 2, 19: 5, 20: 2, 21: 5}.get(kind, 8)
 
 
 def width(fields):
@@ -233,11 +252,21 @@ BENCH = [
     ('record x error-context', b'x', [1, 1, 0, 1, 0, 13], '72 01 01 78 64'),
     ('map string to u32', b'', [4, 0, 12, 0, 6], '63 73 79'),
 ]
+# Rows of instances in the words of wish 1's layouts.
+INSTANCES = [
+    ('module 1 with a, instance 0', b'a', [18, 1, 1, 0, 1, 0], '00 01 01 01 61 12 00'),
+    ('component 1 with a, module 115', b'a', [19, 1, 1, 0, 1, 0, 115], '00 01 01 01 61 00 11 73'),
+    ('core item a, tag 128', b'a', [20, 1, 0, 1, 4, 128], '01 01 01 61 04 80 01'),
+    ('item a, instance 0', b'a', [21, 1, 0, 1] + [0] * 9 + [5, 0], '01 01 00 01 61 05 00'),
+    ('same, external id b', b'ab', [21, 1, 0, 1] + [0] * 6 + [1, 1, 1, 5, 0], '01 01 02 01 61 01 02 01 62 05 00'),
+    ('nothing given to module 0', b'', [18, 0, 0], '00 00 00'), ('nor to component 0', b'', [19, 0, 0], '00 00 00'),
+    ('no core items', b'', [20, 0], '01 00'), ('no items', b'', [21, 0], '01 00'),
+]
 
 
 def try_writer():
-    """The model on document 01's bench table."""
-    for label, pool, row, made in BENCH:
+    """The model on document 01's bench table, and on instances."""
+    for label, pool, row, made in BENCH + INSTANCES:
         assert item(row, pool, family_of(row[0])) == bytes.fromhex(made), label
 
 
@@ -256,6 +285,12 @@ FORMS = """0 p; 1 2 0 1 1 i 1 2 0 4; 2 2 0 1 1 i 2 1 2 0; 3 1 i; 4 0 0 1 i; 4 1 
 FORMS += ['0x1%s %s' % (lead, {'i': 'i', 'ii': 'i 7', 'f': 'f', 'if': 'i f', 'ri': 'f i', 'Zi': 'i'}.get(fields, ''))
           for fields, leads in LEADS.items() for lead in leads.split()]
 FORMS += ['0x10f 1 1 %d %s' % (k, 'i' if k in (3, 4, 5, 7, 8) else '0') for k in range(10)]
+# Instances: each kind and sort alone, names with each choice of options, and rows of two entries.
+INSTANCE_FORMS = ['18 i 0', '18 7 1 0 3 i', '18 i 2 0 1 i 1 2 9', '19 i 0', '19 i 2 0 1 5 i 1 2 0 9', '20 0', '20 2 0 3 4 i 3 0 0 9',
+                  '21 0', '21 2 plain 1 i full 0 9']
+INSTANCE_FORMS += ['19 7 1 0 3 %d i' % sort for sort in range(6)] + ['20 1 0 3 %d i' % kind for kind in range(5)]
+INSTANCE_FORMS += ['21 1 0 2 %s %d i' % (' '.join('1 %d 1' % k if which >> k & 1 else '0 0 0' for k in range(3)), which % 6)
+                   for which in range(8)]
 
 
 def row_of(form, i):
@@ -280,6 +315,15 @@ def named_rows(start, length):
             [15, 0, 1, start, length, 0, 1, 2, 0], [17, start, length] + [0] * 9 + [1, 0, 0],
             [17, 0, 0, 1, start, length] + [0] * 6 + [1, 0, 0], [17, 0, 0] + [0] * 3 + [1, start, length] + [0] * 3 + [1, 0, 0],
             [17, 0, 0] + [0] * 6 + [1, start, length, 1, 0, 0]]
+
+
+def named_instances(start, length):
+    """The same of instances."""
+    name, none = [start, length], [0, 0, 0]
+    return [[18, 1, 1] + name + [7], [18, 1, 2, 0, 0, 7] + name + [7], [19, 1, 1] + name + [0, 7], [20, 1] + name + [2, 7],
+            [21, 1] + name + none * 3 + [1, 7], [21, 1, 0, 0, 1] + name + none * 2 + [1, 7],
+            [21, 1, 0, 0] + none + [1] + name + none + [1, 7], [21, 1, 0, 0] + none * 2 + [1] + name + [1, 7],
+            [21, 2, 0, 0] + none * 3 + [5, 7] + name + none * 3 + [1, 7]]
 
 
 class Dice:
@@ -335,7 +379,8 @@ class Dice:
             return self.name(pool) + sum(([1] + self.name(pool) if self.below(3) == 0 else [0, 0, 0] for _ in range(3)), [])
         made = {'p': lambda: [self.below(14)], 'i': lambda: [self.index()], 'V': self.value, 'O': self.optional, 'Y': self.optional,
                 'N': lambda: self.name(pool), 'D': lambda: self.pick([[0, 0], [1, self.index()]]), 'Z': lambda: [],
-                'R': self.reference, 'K': self.option}
+                'R': self.reference, 'K': self.option, 'A': lambda: [self.index()], 'C': lambda: [self.below(5), self.index()],
+                'S': lambda: [self.below(6), self.index()]}
         return made[field]() if field in made else [self.below(2)]
 
     def row(self, family, pool):

@@ -2,7 +2,7 @@
 //!
 //! A list is laid out as tools/cases.py says; `tools/vectors FILE` puts it behind the others.
 
-use crate::damage::{needed_rooms, some_reading, some_room, some_sheet, ReadingCase};
+use crate::damage::{needed_rooms, some_reading, some_room, some_sheet, ReadingCase, Scope};
 use crate::encode::crate_section;
 use crate::input::{family_of, Input};
 use crate::model;
@@ -67,16 +67,21 @@ fn body_of(section: &[u8]) -> usize {
     section.len() - number_end(number_end(1))
 }
 
-/// The crate's answers: sections of up to six valid rows, each kind in its turn first.
-pub fn crate_answers(rng: &mut Random, count: usize) -> Vec<Case> {
+/// The families whose cases come first, each as often as it is to be picked, and those that were added to them.
+pub const FIRST: &[u64] = &[7, 7, 7, 8, 10];
+pub const INSTANCES: &[u64] = &[2, 5];
+
+/// The crate's answers for some families: sections of up to six valid rows, each kind in its turn first.
+pub fn crate_answers(rng: &mut Random, families: &[u64], count: usize) -> Vec<Case> {
+    let kinds: Vec<u32> = KINDS.iter().copied().filter(|kind| families.contains(&family_of(*kind))).collect();
     let mut cases = Vec::new();
     while cases.len() < count {
-        let kind = KINDS[cases.len() % KINDS.len()];
+        let kind = kinds[cases.len() % kinds.len()];
         let family = family_of(kind);
         let mut input = Input { family, ..Input::default() };
         input.rows.push(valid_row(rng, kind, &mut input.pool));
         for _ in 0..rng.below(6) {
-            let other = *rng.pick(KINDS);
+            let other = *rng.pick(&kinds);
             if family_of(other) == family {
                 input.rows.push(valid_row(rng, other, &mut input.pool));
             }
@@ -105,13 +110,13 @@ fn taken_sheet(input: Vec<u8>, section: Vec<u8>) -> Case {
     }
 }
 
-/// The model's refusals of sheets, at most so many of each number.
-pub fn refused_sheets(rng: &mut Random, tries: usize, most: usize) -> Vec<Case> {
-    let mut counts = [0; 16];
+/// The model's refusals of sheets of some families, at most so many of each number.
+pub fn refused_sheets(rng: &mut Random, families: &'static [u64], tries: usize, most: usize) -> Vec<Case> {
+    let (mut counts, scope) = ([0; 16], Scope::of(families));
     let mut cases = Vec::new();
     for _ in 0..tries {
-        let input = some_sheet(rng);
-        let (body, out) = needed_rooms(&input);
+        let input = some_sheet(rng, &scope);
+        let (body, out) = needed_rooms(&input, &scope);
         let (body_room, room) = (some_room(rng, body), some_room(rng, out));
         if input.len() > LONGEST || body_room.max(room) > LARGEST_ROOM {
             continue;

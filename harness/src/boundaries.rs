@@ -8,9 +8,11 @@ use crate::report::{hex, Difference, Table};
 use crate::tbaunarith::{Section, TYPES};
 use wasm_encoder::ComponentTypeSection;
 
-/// Where one of the two number forms gets a byte longer, where a limit lies, and the ends.
-const PLACES: [u32; 19] =
-    [0, 1, 13, 63, 64, 115, 127, 128, 8191, 8192, 16_383, 16_384, 65_536, 1 << 20, 1 << 21, 1 << 27, 1 << 28, 1 << 31, u32::MAX];
+/// Where one of the two number forms gets a byte longer, where a limit or a list's end lies, and the ends.
+#[rustfmt::skip]
+const PLACES: [u32; 20] = [
+    0, 1, 5, 13, 63, 64, 115, 127, 128, 8191, 8192, 16_383, 16_384, 65_536, 1 << 20, 1 << 21, 1 << 27, 1 << 28, 1 << 31, u32::MAX,
+];
 
 /// The most bytes of a pool and the most words of a row.
 const POOL_BYTES: usize = 65_536;
@@ -60,6 +62,7 @@ fn each_word(table: &mut Table) -> Result<(), Difference> {
 /// A row of each form, with an index wherever there can be one and names from the pool's start on.
 fn bases() -> Vec<Vec<u32>> {
     let mut bases: Vec<Vec<u32>> = KINDS.iter().filter(|kind| **kind != 17).map(|kind| row_of(*kind, 1)).collect();
+    bases.extend([19, 20, 21].into_iter().flat_map(|kind| (1..8).map(move |entry| one_entry(kind, entry))));
     let references = [[0, 7, 0], [1, 7, 0], [2, 1, 7], [3, 0, 7], [3, 1, 0], [4, 7, 0], [5, 7, 0]];
     for reference in references {
         bases.push([vec![17, 0, 1, 0, 0, 0, 0, 0, 0, 0, 0, 0], reference.to_vec()].concat());
@@ -68,11 +71,21 @@ fn bases() -> Vec<Vec<u32>> {
     bases
 }
 
+/// An instance's row with one entry: each sort, and each choice of a name's options, is some entry's.
+fn one_entry(kind: u32, entry: u32) -> Vec<u32> {
+    let mut row = [row_of(kind, 0), entry_of(kind, entry)].concat();
+    if let Some((place, _)) = counted(kind) {
+        row[place] = 1;
+    }
+    row
+}
+
 /// A row of a kind other than import, with n entries if it is counted; the entries differ from one another.
 fn row_of(kind: u32, n: u32) -> Vec<u32> {
     let mut row = vec![kind];
     match kind {
         15 => row.push(1),
+        18 | 19 => row.push(7),
         256 => row.extend([7, 8]),
         _ if kind > 256 && counted(kind).is_some() => row.push(7),
         _ => row.extend(plain_words(kind)),
@@ -112,6 +125,13 @@ fn entry_of(kind: u32, entry: u32) -> Vec<u32> {
     match kind {
         6 => vec![1, entry],
         7 | 8 => vec![entry, 1],
+        18 => vec![entry, 1, entry],
+        19 => vec![entry, 1, entry % 6, entry],
+        20 => vec![entry, 1, entry % 5, entry],
+        21 => {
+            let options = (0..3).flat_map(|option| if entry >> option & 1 == 1 { [1, entry - option, 1] } else { [0, 0, 0] });
+            [entry, 1].into_iter().chain(options).chain([entry % 6, entry]).collect()
+        }
         256.. => vec![3, entry],
         _ => vec![entry, 1, 1, entry],
     }

@@ -17,10 +17,11 @@ struct Component {
     known: bool,
 }
 
-const COMPONENTS: [Component; 4] = [
+const COMPONENTS: [Component; 5] = [
     Component { name: "judge", text: sample::JUDGE, by_crate: stations::judge, known: true },
     Component { name: "pump", text: sample::PUMP, by_crate: stations::pump, known: true },
     Component { name: "watch", text: sample::WATCH, by_crate: stations::watch, known: true },
+    Component { name: "gauge", text: sample::GAUGE, by_crate: stations::gauge, known: true },
     Component { name: "newer", text: sample::NEWER, by_crate: stations::newer, known: false },
 ];
 

@@ -1,6 +1,6 @@
 //! Runs with damaged input: the library beside the model, every reply, byte, word and state field compared.
 
-use crate::input::frame;
+use crate::input::{family_of, frame};
 use crate::model;
 use crate::random::{valid_row, Random, KINDS};
 use crate::report::{Difference, Table};
@@ -65,6 +65,7 @@ const RUNS: &[Run] = &[
     ("every input of up to two bytes, ends of numbers", |_| short_inputs()),
     ("inputs of about 1 GiB", |_| long_inputs()),
     ("calls in damaged sequences of steps", |seed| steps(&mut Random::new(seed), 250_000)),
+    ("a call on every state of small numbers", |_| small_states()),
     ("small rows of every kind, ends of UTF-8's ranges", |_| small_rows()),
     ("rows and pools at their limits", |_| largest_rows()),
     ("sections of about 4 GiB", |_| wide_sections()),
@@ -284,22 +285,48 @@ impl SheetCase {
     }
 }
 
-/// A random kind of one of the three families: 7, 8 or 10.
-fn some_kind(rng: &mut Random, family: u64) -> u32 {
-    match family {
-        7 => rng.below(17) as u32,
-        10 => 17,
-        _ => KINDS[18 + rng.below(KINDS.len() - 18)],
+/// The families of sections.
+const FAMILIES: [u64; 5] = [2, 5, 7, 8, 10];
+
+/// What sheets and steps are made of: families, each as often as it is to be picked, and their kinds.
+pub(crate) struct Scope {
+    families: &'static [u64],
+    kinds: Vec<u32>,
+}
+
+impl Scope {
+    /// These families with all their kinds.
+    pub(crate) fn of(families: &'static [u64]) -> Scope {
+        Scope { families, kinds: KINDS.iter().copied().filter(|kind| families.contains(&family_of(*kind))).collect() }
+    }
+
+    /// Every family.
+    fn whole() -> Scope {
+        Scope::of(&[7, 7, 7, 8, 10, 2, 5])
+    }
+
+    /// A random family.
+    fn some_family(&self, rng: &mut Random) -> u64 {
+        *rng.pick(self.families)
+    }
+
+    /// A random kind of one of its families.
+    fn some_kind(&self, rng: &mut Random, family: u64) -> u32 {
+        let kinds: Vec<u32> = self.kinds.iter().copied().filter(|kind| family_of(*kind) == family).collect();
+        match kinds[..] {
+            [only] => only,
+            _ => *rng.pick(&kinds),
+        }
     }
 }
 
 /// Rows of one family and their pool.
-fn some_rows(rng: &mut Random) -> (Vec<u8>, Vec<Vec<u32>>) {
-    let family = *rng.pick(&[7, 7, 7, 8, 10]);
+fn some_rows(rng: &mut Random, scope: &Scope) -> (Vec<u8>, Vec<Vec<u32>>) {
+    let family = scope.some_family(rng);
     let mut pool = Vec::new();
     let count = if rng.one_in(200) { rng.below(300) } else { 1 + rng.below(4) };
     let rows = (0..count).map(|_| {
-        let kind = some_kind(rng, family);
+        let kind = scope.some_kind(rng, family);
         valid_row(rng, kind, &mut pool)
     });
     let rows = rows.collect();
@@ -307,9 +334,9 @@ fn some_rows(rng: &mut Random) -> (Vec<u8>, Vec<Vec<u32>>) {
 }
 
 /// A word put into a row's place: a boundary, a small number, a kind, or a number near the length of the pool.
-fn some_word(rng: &mut Random, pool: &[u8]) -> u32 {
+fn some_word(rng: &mut Random, scope: &Scope, pool: &[u8]) -> u32 {
     match rng.below(6) {
-        0 => *rng.pick(KINDS),
+        0 => *rng.pick(&scope.kinds),
         1 => rng.number(),
         2 => (pool.len() + rng.below(3)).saturating_sub(1) as u32,
         3 => rng.boundary(),
@@ -318,13 +345,15 @@ fn some_word(rng: &mut Random, pool: &[u8]) -> u32 {
 }
 
 /// Damages one row: a word changed, put in or taken out, another kind, no word at all.
-fn damage_row(rng: &mut Random, row: &mut Vec<u32>, pool: &[u8]) {
+fn damage_row(rng: &mut Random, scope: &Scope, row: &mut Vec<u32>, pool: &[u8]) {
     let place = rng.below(row.len());
-    let word = some_word(rng, pool);
+    let word = some_word(rng, scope, pool);
     match rng.below(8) {
         0 => damage_list(rng, row),
         1 => row.insert(place, word),
-        2 if !row.is_empty() => row[0] = if rng.one_in(2) { *rng.pick(KINDS) } else { 256 + rng.below(0x48) as u32 },
+        2 if !row.is_empty() => {
+            row[0] = if rng.one_in(2) { *rng.pick(&scope.kinds) } else { 256 + rng.below(0x48) as u32 }
+        }
         3 if !row.is_empty() => row[place] = row[place].wrapping_add(1),
         4 if !row.is_empty() => row[place] = row[place].wrapping_sub(1),
         _ if !row.is_empty() => row[place] = word,
@@ -349,7 +378,7 @@ fn damage_pool(rng: &mut Random, pool: &mut Vec<u8>) {
 }
 
 /// Damages a sheet's framing: its version, the numbers that tell lengths, its end, any byte.
-fn damage_framing(rng: &mut Random, sheet: &mut Vec<u8>) {
+fn damage_framing(rng: &mut Random, scope: &Scope, sheet: &mut Vec<u8>) {
     match rng.below(6) {
         0 if !sheet.is_empty() => sheet[0] = *rng.pick(&[0x00, 0x02, 0x81, 0xff]),
         1 if sheet.len() >= 5 => {
@@ -357,27 +386,30 @@ fn damage_framing(rng: &mut Random, sheet: &mut Vec<u8>) {
             sheet[1..5].copy_from_slice(&length.to_be_bytes());
         }
         2 if sheet.len() >= 5 => sheet[4] = sheet[4].wrapping_add(*rng.pick(&[1, 255, 4, 252])),
-        3 => sheet.extend(some_word(rng, &[]).to_be_bytes()),
+        3 => sheet.extend(some_word(rng, scope, &[]).to_be_bytes()),
         4 => sheet.extend([0; 4]),
         _ => damage_bytes(rng, sheet),
     }
 }
 
 /// A sheet: valid, damaged in its rows, pool or framing, of random bytes, or about as long as a sheet may be.
-pub(crate) fn some_sheet(rng: &mut Random) -> Vec<u8> {
+pub(crate) fn some_sheet(rng: &mut Random, scope: &Scope) -> Vec<u8> {
     if rng.one_in(64) {
         let count = rng.below(40);
         return rng.bytes(count);
     }
-    let (mut pool, mut rows) = some_rows(rng);
+    let (mut pool, mut rows) = some_rows(rng, scope);
     for _ in 0..rng.below(3) {
         match rng.below(4) {
             0 => damage_pool(rng, &mut pool),
             1 if rng.one_in(2) => damage_list(rng, &mut rows),
-            2 if rng.one_in(4) => rows.push(valid_row_of_any(rng, &mut pool)),
+            2 if rng.one_in(4) => {
+                let kind = *rng.pick(&scope.kinds);
+                rows.push(valid_row(rng, kind, &mut pool));
+            }
             _ if !rows.is_empty() => {
                 let place = rng.below(rows.len());
-                damage_row(rng, &mut rows[place], &pool);
+                damage_row(rng, scope, &mut rows[place], &pool);
             }
             _ => {}
         }
@@ -388,26 +420,18 @@ pub(crate) fn some_sheet(rng: &mut Random) -> Vec<u8> {
         sheet = frame(&pool, &rows);
     }
     if rng.one_in(4) {
-        (0..=rng.below(3)).for_each(|_| damage_framing(rng, &mut sheet));
+        (0..=rng.below(3)).for_each(|_| damage_framing(rng, scope, &mut sheet));
     }
     sheet
 }
 
-/// A valid row of any kind.
-fn valid_row_of_any(rng: &mut Random, pool: &mut Vec<u8>) -> Vec<u32> {
-    let kind = *rng.pick(KINDS);
-    valid_row(rng, kind, pool)
-}
-
-/// The rooms of body and output that a sheet needs, as far as its rows are taken.
-pub(crate) fn needed_rooms(sheet: &[u8]) -> (usize, usize) {
+/// The rooms of body and output that a sheet needs, as far as its rows are some family's.
+pub(crate) fn needed_rooms(sheet: &[u8], scope: &Scope) -> (usize, usize) {
     let Some((pool, rows)) = model::unframe(sheet) else { return (4, 8) };
     let mut body = 0;
     for row in &rows {
-        let families = [7, 8, 10].iter();
-        let size =
-            families.filter_map(|family| model::write_row(*family, row, pool).ok()).map(|bytes| bytes.len()).next();
-        body += size.unwrap_or(0);
+        let bytes = scope.families.iter().find_map(|family| model::write_row(*family, row, pool).ok());
+        body += bytes.map_or(0, |bytes| bytes.len());
     }
     let section = model::Section { used: body as u64, count: rows.len() as u64, ..model::Section::new(7) };
     match section.finish(&vec![0; body], &mut []) {
@@ -418,10 +442,10 @@ pub(crate) fn needed_rooms(sheet: &[u8]) -> (usize, usize) {
 
 /// Runs as many sheets as said through the model and the library. Err: the smallest input found that differs.
 pub fn sheets(rng: &mut Random, count: u64) -> Result<Tally, String> {
-    let mut tally = Tally::default();
+    let (mut tally, scope) = (Tally::default(), Scope::whole());
     for _ in 0..count {
-        let sheet = some_sheet(rng);
-        let (body, out) = needed_rooms(&sheet);
+        let sheet = some_sheet(rng, &scope);
+        let (body, out) = needed_rooms(&sheet, &scope);
         let case = SheetCase { sheet, body_room: some_room(rng, body), out_room: some_room(rng, out) };
         let (answer, differs) = case.run();
         if differs.is_some() {
@@ -734,11 +758,11 @@ impl StepsCase {
 }
 
 /// Words and pool of a valid row, sometimes damaged, seldom about as long as they may be.
-fn some_words(rng: &mut Random, kind: u32) -> (Vec<u32>, Vec<u8>) {
+fn some_words(rng: &mut Random, scope: &Scope, kind: u32) -> (Vec<u32>, Vec<u8>) {
     let mut pool = if rng.one_in(4) { rng.any_name() } else { Vec::new() };
     let mut words = valid_row(rng, kind, &mut pool);
     if rng.one_in(4) {
-        damage_row(rng, &mut words, &pool);
+        damage_row(rng, scope, &mut words, &pool);
     }
     if rng.one_in(16) {
         damage_pool(rng, &mut pool);
@@ -753,19 +777,19 @@ fn some_words(rng: &mut Random, kind: u32) -> (Vec<u32>, Vec<u8>) {
 }
 
 /// A row for a section, mostly of its family.
-fn some_row(rng: &mut Random, family: u64) -> Call {
-    let kind = if rng.one_in(12) { *rng.pick(KINDS) } else { some_kind(rng, family) };
-    let (row, pool) = some_words(rng, kind);
+fn some_row(rng: &mut Random, scope: &Scope, family: u64) -> Call {
+    let kind = if rng.one_in(12) { *rng.pick(&scope.kinds) } else { scope.some_kind(rng, family) };
+    let (row, pool) = some_words(rng, scope, kind);
     Call::Row { row, pool }
 }
 
 /// The calls of a function in steps; they may end by taking it back.
-fn some_function(rng: &mut Random) -> Vec<Call> {
+fn some_function(rng: &mut Random, scope: &Scope) -> Vec<Call> {
     let mut pool = Vec::new();
     let row = valid_row(rng, 15, &mut pool);
     let mut words = row[2..row.len() - 2].to_vec();
     if rng.one_in(6) {
-        damage_row(rng, &mut words, &pool);
+        damage_row(rng, scope, &mut words, &pool);
     }
     if rng.one_in(12) {
         damage_pool(rng, &mut pool);
@@ -794,7 +818,7 @@ fn some_function(rng: &mut Random) -> Vec<Call> {
 fn some_change(rng: &mut Random, body_room: usize) -> Call {
     let field = rng.below(5);
     let near = match field {
-        0 => *rng.pick(&[7, 8, 10, 0, 6, 9, 11, 263, (1 << 32) + 7]),
+        0 => *rng.pick(&[2, 5, 7, 8, 10, 0, 1, 3, 4, 6, 9, 11, 258, 263, (1 << 32) + 5, (1 << 32) + 7]),
         2 => *rng.pick(&[0, 1, u64::from(u32::MAX) - 1, u64::from(u32::MAX), 1 << 32]),
         3 => rng.below(5) as u64,
         _ => rng.below(body_room + 2) as u64,
@@ -803,13 +827,13 @@ fn some_change(rng: &mut Random, body_room: usize) -> Call {
 }
 
 /// Up to 12 calls on a section, most of them in turn.
-fn some_calls(rng: &mut Random, family: u64, body_room: usize) -> Vec<Call> {
+fn some_calls(rng: &mut Random, scope: &Scope, family: u64, body_room: usize) -> Vec<Call> {
     let wanted = 1 + rng.below(12);
     let mut calls = Vec::new();
     while calls.len() < wanted {
         match rng.below(12) {
-            0..=3 => calls.push(some_row(rng, family)),
-            4..=7 => calls.extend(some_function(rng)),
+            0..=3 => calls.push(some_row(rng, scope, family)),
+            4..=7 => calls.extend(some_function(rng, scope)),
             8 => calls.push(Call::Finish { room: rng.below(body_room + 14) }),
             9 => calls.push(some_change(rng, body_room)),
             10 => calls.push(Call::Result { tag: rng.below(3) as u32, x: 0 }),
@@ -826,15 +850,15 @@ fn some_calls(rng: &mut Random, family: u64, body_room: usize) -> Vec<Call> {
 }
 
 /// A sequence of calls on a fresh section, or on a state that is damaged.
-fn some_steps(rng: &mut Random) -> StepsCase {
-    let family = *rng.pick(&[7, 7, 7, 8, 10]);
+fn some_steps(rng: &mut Random, scope: &Scope) -> StepsCase {
+    let family = scope.some_family(rng);
     let most = *rng.pick(&[1, 8, 24, 64, 256, 256, 4096]);
     let body_room = rng.below(most);
     let mut state = [family, 0, 0, 0, 0];
     if rng.one_in(3) {
         state[1] = rng.below(body_room + 1) as u64;
         state[2] = 1 + rng.below(4) as u64;
-        state[3] = if family == 7 { rng.below(4) as u64 } else { 0 };
+        state[3] = if family == 7 || rng.one_in(8) { rng.below(4) as u64 } else { 0 };
         state[4] = if state[3] == 0 { 0 } else { rng.below(state[1] as usize + 1) as u64 };
     }
     for _ in 0..rng.below(8).saturating_sub(6) {
@@ -842,14 +866,14 @@ fn some_steps(rng: &mut Random) -> StepsCase {
             state[field] = number;
         }
     }
-    StepsCase { state, body_room, calls: some_calls(rng, family, body_room) }
+    StepsCase { state, body_room, calls: some_calls(rng, scope, family, body_room) }
 }
 
 /// Runs as many sequences of calls as said through the model and the library. Err: the smallest found that differs.
 pub fn steps(rng: &mut Random, count: u64) -> Result<Tally, String> {
-    let mut tally = Tally::default();
+    let (mut tally, scope) = (Tally::default(), Scope::whole());
     for _ in 0..count {
-        let case = some_steps(rng);
+        let case = some_steps(rng, &scope);
         if case.run(&mut tally).is_some() {
             return Err(case.smallest());
         }
@@ -920,12 +944,12 @@ pub fn wide_sections() -> Result<Tally, String> {
     Ok(tally)
 }
 
-/// States of section 7 whose used part is about as long as `edge`.
+/// States whose used part is about as long as `edge`; of the families only that of types has open entries.
 fn wide_states(edge: u64) -> Vec<[u64; 5]> {
     let mut states = Vec::new();
     for used in edge - 14..edge + 14 {
         for count in [0, 1, 127, 128, (1 << 32) - 1] {
-            states.push([7, used, count, 0, 0]);
+            states.extend(FAMILIES.map(|family| [family, used, count, 0, 0]));
             for start in [0, 1, 12, used - 1, used] {
                 states.extend((1..=3).map(|phase| [7, used, count, phase, start]));
             }
@@ -940,6 +964,8 @@ fn plain_calls() -> Vec<Call> {
     vec![
         Call::Row { row: vec![0, 12], pool: Vec::new() },
         Call::Row { row: vec![11, u32::MAX], pool: Vec::new() },
+        Call::Row { row: vec![18, 300, 1, 0, 1, 7], pool: name() },
+        Call::Row { row: vec![21, 0], pool: Vec::new() },
         Call::Open,
         Call::Async { a: 1 },
         Call::Params { words: vec![0], pool: Vec::new() },
@@ -953,16 +979,57 @@ fn plain_calls() -> Vec<Call> {
     ]
 }
 
+/// Makes each of the plain calls on each state of small numbers, families that are none's among them, in a body of two
+/// bytes and in one that has room.
+pub fn small_states() -> Result<Tally, String> {
+    let mut tally = Tally::default();
+    let numbers = [4, 5, 4, 4].map(|end| (0..end).collect::<Vec<u64>>());
+    let [used, counts, phases, starts] = numbers.map(|mut numbers| {
+        numbers.extend([u64::from(u32::MAX), 1 << 32]);
+        numbers
+    });
+    for family in (0..13).chain([256 + 2, 256 + 5, (1 << 32) + 2, (1 << 32) + 5, u64::MAX]) {
+        for state in every_state(family, [&used, &counts, &phases, &starts]) {
+            for (call, body_room) in plain_calls().into_iter().flat_map(|call| [(call.clone(), 2), (call, 40)]) {
+                let case = StepsCase { state, body_room, calls: vec![call] };
+                if case.run(&mut tally).is_some() {
+                    return Err(case.smallest());
+                }
+            }
+        }
+    }
+    Ok(tally)
+}
+
+/// The states of a family with one of each list's numbers.
+fn every_state(family: u64, lists: [&[u64]; 4]) -> Vec<[u64; 5]> {
+    let mut states = vec![[family, 0, 0, 0, 0]];
+    for (place, list) in lists.iter().enumerate() {
+        let with = move |mut state: [u64; 5], number: u64| {
+            state[place + 1] = number;
+            state
+        };
+        states = states.into_iter().flat_map(|state| list.iter().map(move |number| with(state, *number))).collect();
+    }
+    states
+}
+
 /// Rows and params of as many words, names and pool bytes as there may be, and of one more, beside a small body.
 pub fn largest_rows() -> Result<Tally, String> {
     let mut tally = Tally::default();
     for pool_size in [65_536, 65_537] {
-        for (front, entry, count) in [
-            (vec![7, 8191], vec![0, 65_536], 8191),
-            (vec![7, 8192], vec![0, 65_536], 8192),
-            (vec![1, 4095], vec![65_535, 1, 1, 64], 4095),
-            (vec![4095], vec![0, 65_536, 0, 12], 4095),
-            (vec![4096], vec![0, 65_536, 0, 12], 4096),
+        for (family, front, entry, count) in [
+            (7, vec![7, 8191], vec![0, 65_536], 8191),
+            (7, vec![7, 8192], vec![0, 65_536], 8192),
+            (7, vec![1, 4095], vec![65_535, 1, 1, 64], 4095),
+            (7, vec![4095], vec![0, 65_536, 0, 12], 4095),
+            (7, vec![4096], vec![0, 65_536, 0, 12], 4096),
+            (2, vec![18, u32::MAX, 5460], vec![0, 65_536, 7], 5460),
+            (2, vec![18, u32::MAX, 5461], vec![0, 65_536, 7], 5461),
+            (5, vec![19, 0, 4095], vec![65_535, 1, 0, 64], 4095),
+            (2, vec![20, 4095], vec![1, 65_535, 4, 128], 4095),
+            (5, vec![21, 1260], [&[0, 65_536][..], &[1, 0, 65_536].repeat(3), &[5, u32::MAX]].concat(), 1260),
+            (5, vec![21, 1261], [&[0, 65_536][..], &[1, 0, 65_536].repeat(3), &[5, u32::MAX]].concat(), 1261),
         ] {
             let words = [front, entry.repeat(count)].concat();
             let pool = vec![b'p'; pool_size];
@@ -972,7 +1039,7 @@ pub fn largest_rows() -> Result<Tally, String> {
                 Call::Params { words: words.clone(), pool: pool.clone() },
                 Call::Row { row: words, pool },
             ];
-            let case = StepsCase { state: [7, 0, 0, 0, 0], body_room: 16, calls };
+            let case = StepsCase { state: [family, 0, 0, 0, 0], body_room: 16, calls };
             if let Some(told) = case.run(&mut tally) {
                 return Err(format!("{count} times {entry:?}, pool of {pool_size} bytes:{told}"));
             }
@@ -1021,7 +1088,7 @@ pub fn small_rows() -> Result<Tally, String> {
     for kind in (0..600).chain([1 << 16, 1 << 31, u32::MAX]) {
         for (length, fill) in (0..20).flat_map(|length| [(length, 0), (length, 1), (length, 2)]) {
             let row: Vec<u32> = std::iter::once(kind).chain(std::iter::repeat_n(fill, length)).collect();
-            for family in [7, 8, 10] {
+            for family in FAMILIES {
                 one_call(family, Call::Row { row: row.clone(), pool: b"abc".to_vec() }, &mut tally)?;
             }
         }

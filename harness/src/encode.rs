@@ -1,16 +1,29 @@
 //! Rows as calls of the crate: the section that wasm-encoder writes for them.
 
-use crate::tbaunarith::{CANONICALS, IMPORTS, TYPES};
+use crate::tbaunarith::{CANONICALS, CORE_INSTANCES, IMPORTS, INSTANCES, TYPES};
 use std::borrow::Cow;
 use wasm_encoder::{
-    CanonicalFunctionSection, CanonicalOption, ComponentExternName, ComponentImportSection, ComponentSection, ComponentTypeRef,
-    ComponentTypeSection, ComponentValType, PrimitiveValType, TypeBounds, ValType,
+    CanonicalFunctionSection, CanonicalOption, ComponentExportKind, ComponentExternName, ComponentImportSection,
+    ComponentInstanceSection, ComponentSection, ComponentTypeRef, ComponentTypeSection, ComponentValType, ExportKind,
+    InstanceSection, ModuleArg, PrimitiveValType, TypeBounds, ValType,
 };
 
 /// The primitives in the order of document 01's numbers.
 pub const PRIMITIVES: [PrimitiveValType; 14] = {
     use PrimitiveValType::*;
     [Bool, S8, U8, S16, U16, S32, U32, S64, U64, F32, F64, Char, String, ErrorContext]
+};
+
+/// The core export kinds in the order of document 01's numbers.
+pub const CORE_KINDS: [ExportKind; 5] = {
+    use ExportKind::*;
+    [Func, Table, Memory, Global, Tag]
+};
+
+/// The sorts in the order of document 01's numbers.
+pub const SORTS: [ComponentExportKind; 6] = {
+    use ComponentExportKind::*;
+    [Module, Func, Value, Type, Component, Instance]
 };
 
 /// The section that the crate writes for these rows, each beside its pool. The rows are valid.
@@ -24,6 +37,8 @@ pub fn crate_section_if_valid<R: AsRef<[u32]>>(family: u64, rows: &[(R, &[u8])])
         TYPES => filled(ComponentTypeSection::new(), rows, add_type),
         IMPORTS => filled(ComponentImportSection::new(), rows, add_import),
         CANONICALS => filled(CanonicalFunctionSection::new(), rows, add_canonical),
+        CORE_INSTANCES => filled(InstanceSection::new(), rows, add_core_instance),
+        INSTANCES => filled(ComponentInstanceSection::new(), rows, add_instance),
         _ => None,
     }
 }
@@ -101,13 +116,27 @@ fn add_import(section: &mut ComponentImportSection, row: &mut Fields) -> Option<
     if row.word()? != 17 {
         return None;
     }
-    let name = ComponentExternName {
-        name: Cow::Borrowed(row.name()?),
-        implements: row.optional_name()?,
-        version_suffix: row.optional_name()?,
-        external_id: row.optional_name()?,
+    section.import(row.extern_name()?, row.reference()?);
+    Some(())
+}
+
+/// Kinds 18 and 20.
+fn add_core_instance(section: &mut InstanceSection, row: &mut Fields) -> Option<()> {
+    match row.word()? {
+        18 => section.instantiate(row.word()?, row.many(Fields::core_argument)?),
+        20 => section.export_items(row.many(Fields::core_item)?),
+        _ => return None,
     };
-    section.import(name, row.reference()?);
+    Some(())
+}
+
+/// Kinds 19 and 21.
+fn add_instance(section: &mut ComponentInstanceSection, row: &mut Fields) -> Option<()> {
+    match row.word()? {
+        19 => section.instantiate(row.word()?, row.many(Fields::argument)?),
+        21 => section.export_items(row.many(Fields::item)?),
+        _ => return None,
+    };
     Some(())
 }
 
@@ -224,8 +253,39 @@ impl<'a> Fields<'a> {
         }
     }
 
+    /// A name and its three options.
+    fn extern_name(&mut self) -> Option<ComponentExternName<'a>> {
+        Some(ComponentExternName {
+            name: Cow::Borrowed(self.name()?),
+            implements: self.optional_name()?,
+            version_suffix: self.optional_name()?,
+            external_id: self.optional_name()?,
+        })
+    }
+
+    fn core_argument(&mut self) -> Option<(&'a str, ModuleArg)> {
+        Some((self.name()?, ModuleArg::Instance(self.word()?)))
+    }
+
+    fn core_item(&mut self) -> Option<(&'a str, ExportKind, u32)> {
+        Some((self.name()?, self.one_of(&CORE_KINDS)?, self.word()?))
+    }
+
+    fn argument(&mut self) -> Option<(&'a str, ComponentExportKind, u32)> {
+        Some((self.name()?, self.one_of(&SORTS)?, self.word()?))
+    }
+
+    fn item(&mut self) -> Option<(ComponentExternName<'a>, ComponentExportKind, u32)> {
+        Some((self.extern_name()?, self.one_of(&SORTS)?, self.word()?))
+    }
+
+    /// One of a list, by its place.
+    fn one_of<T: Copy>(&mut self, list: &[T]) -> Option<T> {
+        list.get(self.word()? as usize).copied()
+    }
+
     fn primitive(&mut self) -> Option<PrimitiveValType> {
-        PRIMITIVES.get(self.word()? as usize).copied()
+        self.one_of(&PRIMITIVES)
     }
 
     /// V.
@@ -306,4 +366,30 @@ impl<'a> Fields<'a> {
             _ => None,
         }
     }
+}
+
+#[cfg(test)]
+mod tests {
+    use super::*;
+    use crate::frames;
+    use crate::input::{family_of, Input};
+    use crate::model::write_row;
+    use crate::random::{valid_row, Random, KINDS};
+
+    #[test]
+    fn the_crate_writes_what_the_model_writes() {
+        for kind in KINDS {
+            let mut random = Random::new(u64::from(*kind));
+            for _ in 0..ROWS_OF_EACH {
+                let mut pool = Vec::new();
+                let row = valid_row(&mut random, *kind, &mut pool);
+                let input = Input::alone(row, pool);
+                let section = crate_section(input.family, &input.beside_pool());
+                let written = write_row(family_of(*kind), &input.rows[0], &input.pool);
+                assert_eq!(written.as_deref().ok(), frames::body(&section), "{}", input.shown());
+            }
+        }
+    }
+
+    const ROWS_OF_EACH: usize = 20_000;
 }

@@ -1,7 +1,7 @@
 //! Rows of one section beside one pool: what the comparisons are fed, as rows, as a sheet and as text.
 
 use crate::report;
-use crate::tbaunarith::{CANONICALS, IMPORTS, TYPES};
+use crate::tbaunarith::{CANONICALS, CORE_INSTANCES, IMPORTS, INSTANCES, TYPES};
 
 /// Rows of one family, whose names all stand in one pool.
 #[derive(Clone, Debug, Default)]
@@ -16,6 +16,8 @@ pub fn family_of(kind: u32) -> u64 {
     match kind {
         0..=16 => TYPES,
         17 => IMPORTS,
+        18 | 20 => CORE_INSTANCES,
+        19 | 21 => INSTANCES,
         _ => CANONICALS,
     }
 }
@@ -25,7 +27,10 @@ pub fn counted(kind: u32) -> Option<(usize, usize)> {
     match kind {
         1 | 2 => Some((1, 4)),
         6..=8 => Some((1, 2)),
-        15 => Some((2, 4)),
+        15 | 19 => Some((2, 4)),
+        18 => Some((2, 3)),
+        20 => Some((1, 4)),
+        21 => Some((1, 13)),
         0x100 => Some((3, 2)),
         0x101 | 0x10f | 0x116 => Some((2, 2)),
         _ => None,

@@ -1,12 +1,13 @@
 //! Valid rows as calls of the crate, checked for UTF-8 only and without lists in between: the crate at its best, for the bench.
 
-use crate::encode::PRIMITIVES;
+use crate::encode::{CORE_KINDS, PRIMITIVES, SORTS};
 use crate::input::family_of;
-use crate::tbaunarith::{IMPORTS, TYPES};
+use crate::tbaunarith::{CORE_INSTANCES, IMPORTS, INSTANCES, TYPES};
 use std::borrow::Cow;
 use wasm_encoder::{
-    CanonicalFunctionSection, CanonicalOption, ComponentDefinedTypeEncoder, ComponentExternName, ComponentImportSection,
-    ComponentSection, ComponentTypeRef, ComponentTypeSection, ComponentValType, TypeBounds, ValType,
+    CanonicalFunctionSection, CanonicalOption, ComponentDefinedTypeEncoder, ComponentExportKind, ComponentExternName,
+    ComponentImportSection, ComponentInstanceSection, ComponentSection, ComponentTypeRef, ComponentTypeSection, ComponentValType,
+    InstanceSection, ModuleArg, TypeBounds, ValType,
 };
 
 /// A word of a row: a number, or the four bytes that a sheet has for it.
@@ -26,8 +27,9 @@ impl Word for [u8; 4] {
     }
 }
 
-/// In the place of a family: imports of which none has options, so that nothing need look for them.
+/// In the place of a family: imports, or instances, of which none has options, so that nothing need look for them.
 pub const PLAIN_IMPORTS: u64 = 0;
+pub const PLAIN_INSTANCES: u64 = 1;
 
 /// The crate's section of a sheet at the end of `sink`. Words and names are taken where they stand. The sheet is right.
 pub fn append_sheet(sheet: &[u8], sink: &mut Vec<u8>) {
@@ -59,6 +61,18 @@ pub fn append_section<'a, W: Word + 'a>(family: u64, rows: impl Iterator<Item = 
     } else if family == IMPORTS {
         let mut section = ComponentImportSection::new();
         rows.for_each(|row| add_import(&mut section, row, pool));
+        section.append_to_component(sink);
+    } else if family == CORE_INSTANCES {
+        let mut section = InstanceSection::new();
+        rows.for_each(|row| add_core_instance(&mut section, row, pool));
+        section.append_to_component(sink);
+    } else if family == PLAIN_INSTANCES {
+        let mut section = ComponentInstanceSection::new();
+        rows.for_each(|row| add_instance(&mut section, row, pool, |words| name(words, pool)));
+        section.append_to_component(sink);
+    } else if family == INSTANCES {
+        let mut section = ComponentInstanceSection::new();
+        rows.for_each(|row| add_instance(&mut section, row, pool, |words| extern_name(words, pool)));
         section.append_to_component(sink);
     } else {
         let mut section = CanonicalFunctionSection::new();
@@ -108,14 +122,34 @@ fn add_defined<W: Word>(new: ComponentDefinedTypeEncoder, kind: u32, row: &[W], 
 
 /// Kind 17.
 fn add_import<W: Word>(section: &mut ComponentImportSection, row: &[W], pool: &[u8]) {
-    let option = |words: &[W]| (words[0].number() == 1).then(|| Cow::Borrowed(name(&words[1..], pool)));
-    let name = ComponentExternName {
-        name: Cow::Borrowed(name(&row[1..], pool)),
-        implements: option(&row[3..]),
-        version_suffix: option(&row[6..]),
-        external_id: option(&row[9..]),
-    };
-    section.import(name, reference(&row[12..]));
+    section.import(extern_name(&row[1..], pool), reference(&row[12..]));
+}
+
+/// Kinds 18 and 20.
+fn add_core_instance<W: Word>(section: &mut InstanceSection, row: &[W], pool: &[u8]) {
+    if row[0].number() == 18 {
+        let given = row[3..].chunks_exact(3).map(|words| (name(words, pool), ModuleArg::Instance(words[2].number())));
+        section.instantiate(row[1].number(), given);
+    } else {
+        let kind = |words: &[W]| CORE_KINDS[words[2].number() as usize];
+        section.export_items(row[2..].chunks_exact(4).map(|words| (name(words, pool), kind(words), words[3].number())));
+    }
+}
+
+/// Kinds 19 and 21, whose items have such names.
+fn add_instance<'a, W: Word, N: Into<ComponentExternName<'a>>>(
+    section: &mut ComponentInstanceSection,
+    row: &[W],
+    pool: &'a [u8],
+    item_name: impl Fn(&[W]) -> N,
+) {
+    if row[0].number() == 19 {
+        let given = row[3..].chunks_exact(4).map(|words| (name(words, pool), sort(words[2]), words[3].number()));
+        section.instantiate(row[1].number(), given);
+    } else {
+        let items = row[2..].chunks_exact(13);
+        section.export_items(items.map(|words| (item_name(words), sort(words[11]), words[12].number())));
+    }
 }
 
 /// Kinds 256 + lead.
@@ -171,6 +205,20 @@ fn add_canonical<W: Word>(section: &mut CanonicalFunctionSection, row: &[W]) {
 
 fn name<'a, W: Word>(words: &[W], pool: &'a [u8]) -> &'a str {
     std::str::from_utf8(&pool[words[0].number() as usize..][..words[1].number() as usize]).expect("a name in UTF-8")
+}
+
+fn extern_name<'a, W: Word>(words: &[W], pool: &'a [u8]) -> ComponentExternName<'a> {
+    let option = |words: &[W]| (words[0].number() == 1).then(|| Cow::Borrowed(name(&words[1..], pool)));
+    ComponentExternName {
+        name: Cow::Borrowed(name(words, pool)),
+        implements: option(&words[2..]),
+        version_suffix: option(&words[5..]),
+        external_id: option(&words[8..]),
+    }
+}
+
+fn sort(word: impl Word) -> ComponentExportKind {
+    SORTS[word.number() as usize]
 }
 
 fn rep(word: impl Word) -> ValType {

@@ -2,17 +2,17 @@
 
 use crate::growing::Growing;
 use crate::input::{family_of, Input};
-use crate::lean::PLAIN_IMPORTS;
+use crate::lean::{PLAIN_IMPORTS, PLAIN_INSTANCES};
 use crate::random::{row_of, Material, Random, KINDS, POOL_BYTES};
 use crate::sample::{Sample, JUDGE, PUMP, WATCH};
-use crate::tbaunarith::{IMPORTS, TYPES};
+use crate::tbaunarith::{IMPORTS, INSTANCES, TYPES};
 use std::ops::{Range, RangeInclusive};
 
 /// Rows beside their pool, gone through more than once for a long section; or sheets.
 #[derive(Default)]
 pub struct Load {
     pub input: Input,
-    /// The family for the crate's calls, which may be `PLAIN_IMPORTS`.
+    /// The family for the crate's calls, which may be `PLAIN_IMPORTS` or `PLAIN_INSTANCES`.
     pub their_family: u64,
     pub repeats: usize,
     pub sheets: Vec<Vec<u8>>,
@@ -44,10 +44,13 @@ pub const GROWING: [Plan; 4] = [
 
 /// Loads whose size is the number of rows, all of them made anew. Scripts are mixed within a name. wasmparser 0.239 reads no
 /// import with options and no async function.
-pub const VARIOUS: [Plan; 17] = [
+pub const VARIOUS: [Plan; 24] = [
     by_rows("canonicals", WRITE, |rows| in_a_section(rows, CANONICAL, &[LATIN], any)),
     by_rows("lift-lower", WRITE, |rows| in_a_section(rows, 0x100..=0x101, &[LATIN], any)),
     by_rows("import-options", WRITE, |rows| in_a_section(rows, IMPORT, &[LATIN], has_options)),
+    by_rows("core-instances", WRITE, |rows| in_a_section(rows, CORE_INSTANCE, &[LATIN], any)),
+    by_rows("instances", WRITE, plain_instances),
+    by_rows("items-options", WRITE, |rows| in_a_section(rows, 21..=21, &[LATIN], any)),
     by_rows("index-lists", WRITE_READ, |rows| in_a_section(rows, 3..=3, &[LATIN], |row| row[1] == 1)),
     by_rows("results", WRITE_READ, |rows| in_a_section(rows, 10..=10, &[LATIN], any)),
     by_rows("variants", WRITE_READ, |rows| in_a_section(rows, 2..=2, &[LATIN], any)),
@@ -62,6 +65,10 @@ pub const VARIOUS: [Plan; 17] = [
     by_rows("imports-by-500", SHEET, |rows| in_sheets(rows, IMPORT, MANY)),
     by_rows("canon-by-3", SHEET, |rows| in_sheets(rows, CANONICAL, FEW)),
     by_rows("canon-by-500", SHEET, |rows| in_sheets(rows, CANONICAL, MANY)),
+    by_rows("core-by-3", SHEET, |rows| in_sheets(rows, CORE_INSTANCE, FEW)),
+    by_rows("core-by-500", SHEET, |rows| in_sheets(rows, CORE_INSTANCE, MANY)),
+    by_rows("inst-by-3", SHEET, |rows| in_sheets(rows, INSTANCE, FEW)),
+    by_rows("inst-by-150", SHEET, |rows| in_sheets(rows, INSTANCE, LONG)),
 ];
 
 /// Long records, the first load's accepted and the others' refused at their last field, whose words are given: its name's two,
@@ -84,13 +91,16 @@ const VARIED: usize = 16 * 1024;
 /// How many rows are made anew where time is measured: more than a processor learns the branches of.
 const ROWS: usize = 20_000;
 
-/// The rows of a sheet.
+/// The rows of a sheet; long ones fill it sooner.
 const FEW: usize = 3;
 const MANY: usize = 500;
+const LONG: usize = 150;
 
-/// The families' kinds.
+/// The families' kinds, with those of other families between.
 const TYPE: RangeInclusive<u32> = 0..=16;
 const IMPORT: RangeInclusive<u32> = 17..=17;
+const CORE_INSTANCE: RangeInclusive<u32> = 18..=20;
+const INSTANCE: RangeInclusive<u32> = 19..=21;
 const CANONICAL: RangeInclusive<u32> = 0x100..=0x141;
 
 /// Scripts whose letters have one, two and three bytes: the first letter, and how many there are.
@@ -123,8 +133,12 @@ impl Load {
     fn of_rows(input: Input, repeats: usize) -> Load {
         let rows: Vec<&Vec<u32>> = (0..repeats).flat_map(|_| &input.rows).collect();
         let (items, section) = (rows.len(), section_of(&input, &rows));
-        let plain = input.family == IMPORTS && !input.rows.iter().any(|row| has_options(row));
-        let their_family = if plain { PLAIN_IMPORTS } else { input.family };
+        let plain = !input.rows.iter().any(|row| has_options(row));
+        let their_family = match input.family {
+            IMPORTS if plain => PLAIN_IMPORTS,
+            INSTANCES if plain => PLAIN_INSTANCES,
+            family => family,
+        };
         Load { input, their_family, repeats, items, section, ..Load::default() }
     }
 
@@ -197,13 +211,24 @@ fn in_a_section(rows: usize, kinds: RangeInclusive<u32>, scripts: Scripts, fits:
     Load::of_rows(Usual::new(scripts, 0..8).input(rows, kinds, fits), 1)
 }
 
+/// Instances none of which has options.
+fn plain_instances(rows: usize) -> Load {
+    let mut usual = Usual { options: false, ..Usual::new(&[LATIN], 0..8) };
+    Load::of_rows(usual.input(rows, INSTANCE, any), 1)
+}
+
 fn any(_: &[u32]) -> bool {
     true
 }
 
-/// Of an import.
+/// Of an import, or of component items.
 fn has_options(row: &[u32]) -> bool {
-    row[3] + row[6] + row[9] > 0
+    let given = |name: &[u32]| name[2] + name[5] + name[8] > 0;
+    match row[0] {
+        17 => given(&row[1..]),
+        21 => row[2..].chunks(13).any(given),
+        _ => false,
+    }
 }
 
 /// Rows of some kinds in sheets of so many, each with a pool of its own.
@@ -234,19 +259,22 @@ struct Usual {
     random: Random,
     scripts: Scripts,
     entries: Range<usize>,
+    /// Whether names have options.
+    options: bool,
     pool: Vec<u8>,
     names: Vec<[u32; 2]>,
 }
 
 impl Usual {
     fn new(scripts: Scripts, entries: Range<usize>) -> Usual {
-        Usual { random: Random::new(3), scripts, entries, pool: Vec::new(), names: Vec::new() }
+        Usual { random: Random::new(3), scripts, entries, options: true, pool: Vec::new(), names: Vec::new() }
     }
 
-    /// So many rows of some kinds that fit, beside a new pool.
+    /// So many rows of some kinds that fit, of the first one's family, beside a new pool.
     fn input(&mut self, rows: usize, kinds: RangeInclusive<u32>, fits: fn(&[u32]) -> bool) -> Input {
-        let kinds: Vec<u32> = KINDS.iter().copied().filter(|kind| kinds.contains(kind)).collect();
-        let mut input = Input { family: family_of(kinds[0]), ..Input::default() };
+        let mut input = Input { family: family_of(*kinds.start()), ..Input::default() };
+        let fit = |kind: &u32| kinds.contains(kind) && family_of(*kind) == input.family;
+        let kinds: Vec<u32> = KINDS.iter().copied().filter(fit).collect();
         self.names.clear();
         while input.rows.len() < rows {
             let row = row_of(*self.random.pick(&kinds), self);
@@ -271,6 +299,10 @@ impl Material for Usual {
 
     fn entries(&mut self, _: usize) -> usize {
         self.entries.start + self.random.below(self.entries.len())
+    }
+
+    fn has_option(&mut self) -> bool {
+        self.options && self.random.below(2) == 1
     }
 
     /// A name of 3 to 12 letters at the pool's end, or an earlier one where the pool is full.

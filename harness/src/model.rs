@@ -11,7 +11,9 @@ const SHEET_BYTES: usize = 65_536;
 /// The largest size of an item or of a finished section's content, and the largest entry count.
 const MOST: u64 = 4_294_967_295;
 
-// "A section and its open entry": the families.
+// "A section and its open entry": the families; wish 1 adds those of instances.
+const CORE_INSTANCES: u64 = 2;
+const INSTANCES: u64 = 5;
 const TYPES: u64 = 7;
 const CANONICALS: u64 = 8;
 const IMPORTS: u64 = 10;
@@ -61,8 +63,15 @@ fn family_of(kind: u32) -> Option<u64> {
     match kind {
         0..=16 => Some(TYPES),
         17 => Some(IMPORTS),
+        18 | 20 => Some(CORE_INSTANCES),
+        19 | 21 => Some(INSTANCES),
         _ => canonical_of(kind).map(|_| CANONICALS),
     }
+}
+
+/// Whether a family is a section's.
+fn is_family(family: u64) -> bool {
+    matches!(family, CORE_INSTANCES | INSTANCES | TYPES | CANONICALS | IMPORTS)
 }
 
 /// How a canonical's words and bytes go on after its lead byte.
@@ -115,6 +124,10 @@ fn words_needed(kind: u32, row: &[u32]) -> Option<u64> {
         15 => Some(5 + 4 * count_at(2)?),
         16 => Some(4),
         17 => Some(15),
+        18 => Some(3 + 3 * count_at(2)?),
+        19 => Some(3 + 4 * count_at(2)?),
+        20 => Some(2 + 4 * count_at(1)?),
+        21 => Some(2 + 13 * count_at(1)?),
         _ => match canonical_of(kind)? {
             Canonical::Nothing | Canonical::Zero => Some(1),
             Canonical::Index | Canonical::Flag | Canonical::ZeroMemory => Some(2),
@@ -129,8 +142,7 @@ fn words_needed(kind: u32, row: &[u32]) -> Option<u64> {
 
 /// The bytes of a row, room apart: LIMIT, KIND, ROW, the fields left to right, TOO_BIG.
 pub fn write_row(family: u64, row: &[u32], pool: &[u8]) -> Result<Vec<u8>, Refused> {
-    let known_family = family == TYPES || family == CANONICALS || family == IMPORTS;
-    if !known_family || row.len() > ROW_WORDS || pool.len() > POOL_BYTES {
+    if !is_family(family) || row.len() > ROW_WORDS || pool.len() > POOL_BYTES {
         return refused(Refusal::Limit, 0);
     }
     let Some(kind) = row.first().copied() else {
@@ -148,6 +160,7 @@ pub fn write_row(family: u64, row: &[u32], pool: &[u8]) -> Result<Vec<u8>, Refus
         15 => fields.function()?,
         16 => fields.resource()?,
         17 => fields.import()?,
+        18..=21 => fields.instance(kind)?,
         _ => fields.canonical(kind)?,
     }
     if fields.bytes.len() as u64 > MOST {
@@ -362,10 +375,10 @@ impl Fields<'_> {
         self.byte(0x01).number()
     }
 
-    /// Kind 17, import: N, three of (present, N), reference. Without options 00 and the name; else 02, the name, the
-    /// option count, then each option's kind and string.
-    fn import(&mut self) -> Result<(), Refused> {
-        let present_places = [3, 6, 9];
+    /// A name with options: N, three of (present, N). Without options 00 and the name; else 02, the name, the option
+    /// count, then each option's kind and string.
+    fn extern_name(&mut self) -> Result<(), Refused> {
+        let present_places = [2, 5, 8].map(|word| self.place + word);
         let present = present_places.iter().filter(|place| self.words.get(**place) == Some(&1)).count() as u8;
         self.byte(if present == 0 { 0x00 } else { 0x02 });
         self.name()?;
@@ -381,7 +394,12 @@ impl Fields<'_> {
                 self.unused()?;
             }
         }
-        self.reference()
+        Ok(())
+    }
+
+    /// Kind 17, import: a name with options, reference.
+    fn import(&mut self) -> Result<(), Refused> {
+        self.two(Self::extern_name, Self::reference)
     }
 
     /// An import's reference, three words.
@@ -396,6 +414,38 @@ impl Fields<'_> {
             },
             4 => self.byte(0x04).two(Self::number, Self::unused),
             _ => self.byte(0x05).two(Self::number, Self::unused),
+        }
+    }
+
+    /// An argument's instance: 12, the sort of a core instance, and its index.
+    fn instance_argument(&mut self) -> Result<(), Refused> {
+        self.byte(0x12).number()
+    }
+
+    /// A core kind, 0..4, which is its byte, and an index.
+    fn core_kind_index(&mut self) -> Result<(), Refused> {
+        let kind = self.up_to(4)?;
+        self.byte(kind as u8).number()
+    }
+
+    /// A sort, 0..5, and an index: a core module's sort is 00 11, another's is its byte.
+    fn sort_index(&mut self) -> Result<(), Refused> {
+        let sort = self.up_to(5)?;
+        self.byte(sort as u8);
+        if sort == 0 {
+            self.byte(0x11);
+        }
+        self.number()
+    }
+
+    /// Kinds 18..21: 00 and what is instantiated with its arguments, or 01 and the items.
+    fn instance(&mut self, kind: u32) -> Result<(), Refused> {
+        match kind {
+            18 => self.byte(0x00).two(Self::number, |row| row.list(|row| row.two(Self::name, Self::instance_argument))),
+            19 => self.byte(0x00).two(Self::number, |row| row.list(|row| row.two(Self::name, Self::sort_index))),
+            20 => self.byte(0x01).list(|row| row.two(Self::name, Self::core_kind_index)),
+            21 => self.byte(0x01).list(|row| row.two(Self::extern_name, Self::sort_index)),
+            _ => refused(Refusal::Kind, 0),
         }
     }
 
@@ -479,7 +529,6 @@ impl Section {
 
     /// LIMIT: what a state beside its buffer may not be.
     fn judge_state(&self, body_room: usize) -> Result<(), Refused> {
-        let no_family = self.family != TYPES && self.family != CANONICALS && self.family != IMPORTS;
         let not_held = self.count > MOST || self.phase > PARAMS_GIVEN;
         let past_buffer = self.used > body_room as u64;
         let broken_entry = if self.phase == CLOSED {
@@ -487,7 +536,7 @@ impl Section {
         } else {
             self.start > self.used || self.count == 0 || self.family != TYPES
         };
-        if no_family || not_held || past_buffer || broken_entry {
+        if !is_family(self.family) || not_held || past_buffer || broken_entry {
             return refused(Refusal::Limit, 0);
         }
         Ok(())
@@ -1144,6 +1193,31 @@ mod tests {
         ),
     ];
 
+    /// Rows of instances, beside the pool `foo1`.
+    const INSTANCE_ROWS: &[(u64, &[u32], &[u8])] = &[
+        // module 1 with `foo`, instance 128; without arguments
+        (2, &[18, 1, 1, 0, 3, 128], &[0x00, 0x01, 0x01, 0x03, 0x66, 0x6f, 0x6f, 0x12, 0x80, 0x01]),
+        (2, &[18, 0, 0], &[0x00, 0x00, 0x00]),
+        // component 300 with `foo`, module 7, and `1`, instance 0; without arguments
+        (
+            5,
+            &[19, 300, 2, 0, 3, 0, 7, 3, 1, 5, 0],
+            &[0x00, 0xac, 0x02, 0x02, 0x03, 0x66, 0x6f, 0x6f, 0x00, 0x11, 0x07, 0x01, 0x31, 0x05, 0x00],
+        ),
+        (5, &[19, 0, 0], &[0x00, 0x00, 0x00]),
+        // `foo`, tag 115; nothing
+        (2, &[20, 1, 0, 3, 4, 115], &[0x01, 0x01, 0x03, 0x66, 0x6f, 0x6f, 0x04, 0x73]),
+        (2, &[20, 0], &[0x01, 0x00]),
+        // `foo`, function 0; the same with version suffix `1`; nothing
+        (5, &[21, 1, 0, 3, 0, 0, 0, 0, 0, 0, 0, 0, 0, 1, 0], &[0x01, 0x01, 0x00, 0x03, 0x66, 0x6f, 0x6f, 0x01, 0x00]),
+        (
+            5,
+            &[21, 1, 0, 3, 0, 0, 0, 1, 3, 1, 0, 0, 0, 1, 0],
+            &[0x01, 0x01, 0x02, 0x03, 0x66, 0x6f, 0x6f, 0x01, 0x01, 0x01, 0x31, 0x01, 0x00],
+        ),
+        (5, &[21, 0], &[0x01, 0x00]),
+    ];
+
     /// A read item's row, written again beside the bytes taken.
     fn read_and_write(family: u64, input: &[u8]) -> Result<Vec<u8>, Refused> {
         let mut row = [0; 64];
@@ -1164,6 +1238,86 @@ mod tests {
         for (family, row, pool, bytes) in BENCH {
             assert_eq!(write_row(*family, row, pool), Ok(bytes.to_vec()));
         }
+    }
+
+    #[test]
+    fn instances_are_written() {
+        for (family, row, bytes) in INSTANCE_ROWS {
+            assert_eq!(write_row(*family, row, b"foo1"), Ok(bytes.to_vec()));
+            let kind = Err(Refused { why: Refusal::Kind, value: 0 });
+            assert_eq!(write_row(7 - *family, row, b"foo1"), kind);
+            assert_eq!(write_row(7, row, b"foo1"), kind);
+        }
+    }
+
+    #[test]
+    fn instances_are_refused() {
+        let plain = [21, 1, 0, 3, 0, 0, 0, 0, 0, 0, 0, 0, 0, 1, 0];
+        let with = |place: usize, word: u32| {
+            let mut row = plain.to_vec();
+            row[place] = word;
+            row
+        };
+        let refusals = [
+            // A kind and sorts past their lists.
+            (2, vec![20, 1, 0, 3, 5, 0], Refusal::Tag, 4),
+            (5, vec![19, 0, 1, 0, 3, 6, 0], Refusal::Tag, 5),
+            (5, with(13, 6), Refusal::Tag, 13),
+            // Options: a flag, and the unused words of an absent one.
+            (5, with(4, 2), Refusal::Tag, 4),
+            (5, with(8, 1), Refusal::Tag, 8),
+            (5, with(12, 1), Refusal::Tag, 12),
+            // Names past the pool.
+            (2, vec![18, 0, 1, 2, 3, 0], Refusal::Range, 3),
+            (5, with(3, 5), Refusal::Range, 2),
+            // Rows that are not as long as their count needs.
+            (2, vec![18, 0], Refusal::Row, 0),
+            (2, vec![18, 0, 1, 0, 3], Refusal::Row, 0),
+            (5, vec![19, 0, 1, 0, 3, 0], Refusal::Row, 0),
+            (2, vec![20, 2, 0, 3, 0, 0], Refusal::Row, 0),
+            (5, with(1, 2), Refusal::Row, 0),
+        ];
+        for (family, row, why, value) in refusals {
+            assert_eq!(write_row(family, &row, b"foo1"), Err(Refused { why, value }), "{row:?}");
+        }
+    }
+
+    #[test]
+    fn nothing_is_open_in_a_section_of_instances() {
+        for family in [2, 5] {
+            let mut body = [0; 16];
+            let mut section = Section::new(family);
+            let refused = |why: Refusal| Err(Refused { why, value: 0 });
+            assert_eq!(section.open(&mut body), refused(Refusal::Kind));
+            assert_eq!(section.make_async(1, &mut body), refused(Refusal::Order));
+            assert_eq!(section.params(&[0], &[], &mut body), refused(Refusal::Order));
+            assert_eq!(section.result(2, 0, &mut body), refused(Refusal::Order));
+            assert_eq!(section.abandon(&mut body), refused(Refusal::Order));
+            assert_eq!(section.state(), [family, 0, 0, 0, 0]);
+            section.count = MOST;
+            assert_eq!(section.open(&mut body), refused(Refusal::Count));
+            section.phase = OPENED;
+            assert_eq!(section.open(&mut body), refused(Refusal::Limit));
+        }
+    }
+
+    #[test]
+    fn sheets_of_instances() {
+        let word = |number: u32| number.to_be_bytes();
+        let sheet_of = |rows: &[&[u32]]| {
+            let words = rows.iter().flat_map(|row| std::iter::once(row.len() as u32).chain(row.iter().copied()));
+            [&[1, 0, 0, 0, 0][..], &words.flat_map(word).collect::<Vec<u8>>()].concat()
+        };
+        for (row, other, section) in [
+            (&[18, 0, 0][..], &[20, 0][..], [2, 6, 2, 0, 0, 0, 1, 0]),
+            (&[19, 0, 0], &[21, 0], [5, 6, 2, 0, 0, 0, 1, 0]),
+        ] {
+            let (mut body, mut out) = ([0; 8], [0; 8]);
+            assert_eq!(sheet(&sheet_of(&[row, other]), &mut body, &mut out), Ok(8));
+            assert_eq!(out, section);
+        }
+        let mixed = sheet_of(&[&[18, 0, 0], &[19, 0, 0]]);
+        assert_eq!(sheet(&mixed, &mut [0; 8], &mut [0; 8]), Err(Refused { why: Refusal::Kind, value: 1 }));
     }
 
     #[test]

@@ -1,8 +1,9 @@
 //! A small deterministic random generator, and the random numbers, names and valid rows that are made with it.
 
-/// Every kind of document 01: 0..=17, then 256 + lead for each canonical lead.
+/// Every kind of document 01: 0..=21, then 256 + lead for each canonical lead.
 pub const KINDS: &[u32] = &[
     0, 1, 2, 3, 4, 5, 6, 7, 8, 9, 10, 11, 12, 13, 14, 15, 16, 17, // types and import
+    18, 19, 20, 21, // instances
     0x100, 0x101, 0x102, 0x103, 0x104, 0x105, 0x106, 0x10a, 0x10b, 0x10c, 0x10d, 0x10e, 0x10f, // canonicals
     0x111, 0x112, 0x113, 0x114, 0x115, 0x116, 0x118, 0x119, 0x11a, 0x11b, 0x11e, 0x11f, //
     0x120, 0x121, 0x122, 0x123, 0x124, 0x125, 0x126, 0x127, 0x129, 0x12a, 0x12b, 0x12c, 0x12d, 0x12e, 0x12f, //
@@ -201,6 +202,7 @@ pub fn row_of(kind: u32, material: &mut impl Material) -> Vec<u32> {
             }
         }
         17 => maker.import(),
+        18..=21 => maker.instance(kind),
         _ => maker.canonical(kind),
     }
     maker.words
@@ -219,6 +221,11 @@ pub trait Material {
 
     /// A name: its start and length in the pool.
     fn name(&mut self) -> [u32; 2];
+
+    /// Whether a name has an option.
+    fn has_option(&mut self) -> bool {
+        self.random().below(2) == 1
+    }
 }
 
 /// Material at which an encoding, a limit or a list changes.
@@ -360,15 +367,22 @@ impl<M: Material> RowMaker<'_, M> {
         }
     }
 
-    /// The words after the kind of an import.
-    fn import(&mut self) {
+    /// N and its three options.
+    fn extern_name(&mut self) {
         self.name();
         for _ in 0..3 {
-            match self.up_to(1) {
-                0 => self.words.extend([0, 0]),
-                _ => self.name(),
+            if self.material.has_option() {
+                self.words.push(1);
+                self.name();
+            } else {
+                self.words.extend([0, 0, 0]);
             }
         }
+    }
+
+    /// The words after the kind of an import.
+    fn import(&mut self) {
+        self.extern_name();
         match self.up_to(5) {
             2 => self.value_type(),
             3 => match self.up_to(1) {
@@ -379,6 +393,49 @@ impl<M: Material> RowMaker<'_, M> {
                 self.number();
                 self.words.push(0);
             }
+        }
+    }
+
+    /// (N,instance): an argument of a core instantiation.
+    fn core_argument(&mut self) {
+        self.name();
+        self.number();
+    }
+
+    /// (N,sort,index): an argument of a component instantiation.
+    fn argument(&mut self) {
+        self.name();
+        self.up_to(5);
+        self.number();
+    }
+
+    /// (N,kind,index): a core item.
+    fn core_item(&mut self) {
+        self.name();
+        self.up_to(4);
+        self.number();
+    }
+
+    /// N with its options, sort and index: a component item.
+    fn item(&mut self) {
+        self.extern_name();
+        self.up_to(5);
+        self.number();
+    }
+
+    /// The words after the kind of kinds 18..21.
+    fn instance(&mut self, kind: u32) {
+        match kind {
+            18 => {
+                self.number();
+                self.list(3, 3, Self::core_argument);
+            }
+            19 => {
+                self.number();
+                self.list(3, 4, Self::argument);
+            }
+            20 => self.list(2, 4, Self::core_item),
+            _ => self.list(2, 13, Self::item),
         }
     }
 
@@ -440,6 +497,8 @@ mod tests {
                 let family = match kind {
                     0..=16 => 7,
                     17 => 10,
+                    18 | 20 => 2,
+                    19 | 21 => 5,
                     _ => 8,
                 };
                 assert!(write_row(family, &row, &pool).is_ok(), "{row:?}");

@@ -1,17 +1,19 @@
-//! Sections written by the library and read by wasmparser: it finds the items that the library reads, at the same places.
+//! Sections written by the library and read by wasmparser: it finds the items that the library reads, at the same places; of
+//! instances, which the library does not read, those that were written.
 
 use crate::frames;
 use crate::growing::Growing;
-use crate::input::{family_of, Input};
+use crate::input::{counted, family_of, Input};
 use crate::random::{valid_row, Random, KINDS};
 use crate::report::{words, Difference, Table};
 use crate::shrink;
-use crate::tbaunarith::{read_import, read_type, Refused, IMPORTS, TYPES};
+use crate::tbaunarith::{read_import, read_type, Refused, CORE_INSTANCES, IMPORTS, INSTANCES, TYPES};
 use std::collections::BTreeMap;
 use wasmparser::{
-    BinaryReader, BinaryReaderError, ComponentDefinedType, ComponentImport, ComponentImportSectionReader, ComponentType,
-    ComponentTypeRef, ComponentTypeSectionReader, ComponentValType, FromReader, PrimitiveValType, SectionLimited, TypeBounds,
-    ValType, VariantCase,
+    BinaryReader, BinaryReaderError, ComponentDefinedType, ComponentExport, ComponentExternalKind, ComponentImport,
+    ComponentImportSectionReader, ComponentInstance, ComponentInstanceSectionReader, ComponentInstantiationArg, ComponentType,
+    ComponentTypeRef, ComponentTypeSectionReader, ComponentValType, Export, ExternalKind, FromReader, Instance,
+    InstanceSectionReader, InstantiationArg, PrimitiveValType, SectionLimited, TypeBounds, ValType, VariantCase,
 };
 
 /// How many items of each kind are compared at least.
@@ -23,9 +25,13 @@ const ITEMS_OF_A_SECTION: usize = 50;
 /// The most words of a row.
 const ROW_WORDS: usize = 16_384;
 
-/// Types, then imports.
+/// The families that wasmparser reads.
+const FAMILIES: [(u64, &str); 4] =
+    [(TYPES, "types"), (IMPORTS, "imports"), (CORE_INSTANCES, "core instances"), (INSTANCES, "instances")];
+
+/// Each family.
 pub fn compare(table: &mut Table) -> Result<(), Difference> {
-    for (family, name) in [(TYPES, "types"), (IMPORTS, "imports")] {
+    for (family, name) in FAMILIES {
         let mut counts = Counts::default();
         compare_sections(family, &mut counts)?;
         let what = format!("{name}: items read, at least {ITEMS_OF_EACH} of each kind ({})", counts.items.len());
@@ -55,6 +61,7 @@ fn unread(row: &[u32]) -> Option<&'static str> {
         15 if row[1] == 1 => Some("async function (43)"),
         15 if row[2] > 1000 => Some("over 1,000 parameters"),
         17 if [row[3], row[6], row[9]].contains(&1) => Some("import options (02)"),
+        21 if row[2..].chunks(13).any(|item| [item[2], item[5], item[8]].contains(&1)) => Some("item options (02)"),
         _ => None,
     }
 }
@@ -68,7 +75,10 @@ fn compare_sections(family: u64, counts: &mut Counts) -> Result<(), Difference> 
         let mut input = Input { family, ..Input::default() };
         for _ in 0..=random.below(ITEMS_OF_A_SECTION) {
             let kind = *random.pick(&kinds);
-            let row = valid_row(&mut random, kind, &mut input.pool);
+            let mut row = valid_row(&mut random, kind, &mut input.pool);
+            if kind == 21 && random.one_in(2) {
+                row[2..].chunks_mut(13).for_each(|item| item[2..11].fill(0));
+            }
             match unread(&row) {
                 None => {
                     *counts.items.entry(row[0]).or_default() += 1;
@@ -87,11 +97,11 @@ fn compare_sections(family: u64, counts: &mut Counts) -> Result<(), Difference> 
     Ok(())
 }
 
-/// An item that is left out: the library writes and reads it, wasmparser does refuse it.
+/// An item that is left out: the library writes it, and reads it if it has a call for that; wasmparser does refuse it.
 fn refused_alone(form: &str, input: &Input) -> Result<(), Difference> {
     let unlike = |library, other| told(&format!("{form}, which is left out"), input, library, other);
     let section = written(input).map_err(|refused| unlike(format!("{refused:?}"), "a valid row".into()))?;
-    match (by_library(input.family, &section), by_wasmparser(input.family, &section)) {
+    match (by_library(input, &section), by_wasmparser(input.family, &section)) {
         (Ok(_), Err(_)) => Ok(()),
         (library, other) => Err(unlike(shown(&library), shown(&other))),
     }
@@ -106,7 +116,7 @@ type Answer = Result<Vec<Found>, String>;
 /// Both sides find the same items.
 fn same_items(input: &Input) -> Result<(), Difference> {
     let section = written(input).map_err(|refused| told("valid rows", input, format!("{refused:?}"), String::new()))?;
-    let (library, other) = (by_library(input.family, &section), by_wasmparser(input.family, &section));
+    let (library, other) = (by_library(input, &section), by_wasmparser(input.family, &section));
     if library.is_ok() && library == other {
         return Ok(());
     }
@@ -125,9 +135,13 @@ fn written(input: &Input) -> Result<Vec<u8>, Refused> {
 
 const BROKEN: &str = "the section's framing is broken";
 
-/// The items that the library reads, one after another to the end of the section.
-fn by_library(family: u64, section: &[u8]) -> Answer {
-    let read = if family == TYPES { read_type } else { read_import };
+/// The items that the library reads, one after another to the end of the section; of instances those that it wrote.
+fn by_library(input: &Input, section: &[u8]) -> Answer {
+    let read = match input.family {
+        TYPES => read_type,
+        IMPORTS => read_import,
+        _ => return Ok(input.rows.iter().map(|row| (0, with_names(row, &input.pool))).collect()),
+    };
     let (content, body) = (frames::content(section).ok_or(BROKEN)?, frames::body(section).ok_or(BROKEN)?);
     let (mut place, mut row, mut found) = (content.len() - body.len(), vec![0; ROW_WORDS], Vec::new());
     while place < content.len() {
@@ -139,15 +153,35 @@ fn by_library(family: u64, section: &[u8]) -> Answer {
     Ok(found)
 }
 
+/// An instance's row in which the bytes of each entry's name stand in the place of its start; entries begin with their names.
+fn with_names(row: &[u32], bytes: &[u8]) -> Vec<u32> {
+    let Some((front, entries)) = counted(row[0]).and_then(|(place, _)| row.split_at_checked(place + 1)) else {
+        return Vec::new();
+    };
+    let mut words = front.to_vec();
+    for entry in entries.chunks(counted(row[0]).map_or(1, |(_, width)| width)) {
+        let name = bytes.get(entry[0] as usize..).and_then(|bytes| bytes.get(..entry[1] as usize)).unwrap_or_default();
+        words.extend(name.iter().map(|byte| u32::from(*byte)));
+        words.extend(&entry[1..]);
+    }
+    words
+}
+
 /// The items that wasmparser reads.
 fn by_wasmparser(family: u64, section: &[u8]) -> Answer {
     let content = frames::content(section).ok_or(BROKEN)?;
     let reader = BinaryReader::new(content, 0);
     let found = match family {
         TYPES => ComponentTypeSectionReader::new(reader).and_then(|section| rows_of(section, content, RowOf::component_type)),
-        _ => ComponentImportSectionReader::new(reader).and_then(|section| rows_of(section, content, RowOf::import)),
+        IMPORTS => ComponentImportSectionReader::new(reader).and_then(|section| rows_of(section, content, RowOf::import)),
+        CORE_INSTANCES => InstanceSectionReader::new(reader).and_then(|section| rows_of(section, content, RowOf::core_instance)),
+        _ => ComponentInstanceSectionReader::new(reader).and_then(|section| rows_of(section, content, RowOf::instance)),
     };
-    found.map_err(|error| error.to_string())
+    let found = found.map_err(|error| error.to_string())?;
+    if family == TYPES || family == IMPORTS {
+        return Ok(found);
+    }
+    Ok(found.iter().map(|(place, row)| (0, with_names(row, &content[*place..]))).collect())
 }
 
 /// Each item of a reader as the row of document 01.
@@ -298,6 +332,65 @@ impl RowOf<'_> {
             ComponentTypeRef::Component(index) => self.three_words(4, index, 0),
             ComponentTypeRef::Instance(index) => self.three_words(5, index, 0),
         }
+    }
+
+    /// Kinds 18 and 20.
+    fn core_instance(&mut self, item: &Instance) -> Option<()> {
+        match item {
+            Instance::Instantiate { module_index, args } => {
+                self.words.extend([18, *module_index]);
+                self.many(args, Self::core_argument)
+            }
+            Instance::FromExports(items) => {
+                self.word(20)?;
+                self.many(items, Self::core_item)
+            }
+        }
+    }
+
+    /// An argument can be nothing but an instance.
+    fn core_argument(&mut self, argument: &InstantiationArg) -> Option<()> {
+        self.name(argument.name)?;
+        self.word(argument.index)
+    }
+
+    fn core_item(&mut self, item: &Export) -> Option<()> {
+        use ExternalKind::*;
+        self.name(item.name)?;
+        self.word([Func, Table, Memory, Global, Tag].iter().position(|each| *each == item.kind)? as u32)?;
+        self.word(item.index)
+    }
+
+    /// Kinds 19 and 21.
+    fn instance(&mut self, item: &ComponentInstance) -> Option<()> {
+        match item {
+            ComponentInstance::Instantiate { component_index, args } => {
+                self.words.extend([19, *component_index]);
+                self.many(args, Self::argument)
+            }
+            ComponentInstance::FromExports(items) => {
+                self.word(21)?;
+                self.many(items, Self::item)
+            }
+        }
+    }
+
+    fn argument(&mut self, argument: &ComponentInstantiationArg) -> Option<()> {
+        self.name(argument.name)?;
+        self.sort(argument.kind)?;
+        self.word(argument.index)
+    }
+
+    fn item(&mut self, item: &ComponentExport) -> Option<()> {
+        self.name(item.name.0)?;
+        self.words.extend([0; 9]);
+        self.sort(item.kind)?;
+        self.word(item.index)
+    }
+
+    fn sort(&mut self, kind: ComponentExternalKind) -> Option<()> {
+        use ComponentExternalKind::*;
+        self.word([Module, Func, Value, Type, Component, Instance].iter().position(|each| *each == kind)? as u32)
     }
 
     fn three_words(&mut self, one: u32, two: u32, three: u32) -> Option<()> {

@@ -4,7 +4,7 @@ use crate::drive::Driver;
 use crate::input::{family_of, Input};
 use crate::random::{valid_row, Random, KINDS};
 use crate::report::{Difference, Table};
-use crate::tbaunarith::{CANONICALS, IMPORTS, TYPES};
+use crate::tbaunarith::{CANONICALS, CORE_INSTANCES, IMPORTS, INSTANCES, TYPES};
 
 /// How many rows of each kind are compared alone, and how many at least in sections.
 const ROWS_OF_EACH: u64 = 20_000;
@@ -12,7 +12,13 @@ const ROWS_OF_EACH: u64 = 20_000;
 /// The most rows of a section.
 const ROWS_OF_A_SECTION: usize = 50;
 
-const FAMILIES: [(u64, &str); 3] = [(TYPES, "types"), (IMPORTS, "imports"), (CANONICALS, "canonicals")];
+const FAMILIES: [(u64, &str); 5] = [
+    (TYPES, "types"),
+    (IMPORTS, "imports"),
+    (CANONICALS, "canonicals"),
+    (CORE_INSTANCES, "core instances"),
+    (INSTANCES, "instances"),
+];
 
 /// Everything about random rows.
 pub fn compare(table: &mut Table) -> Result<(), Difference> {

@@ -1,16 +1,18 @@
 //! Sample components as text: sections of rows and steps in the words of document 01, some of them with a name.
 //!
-//! `;` begins a comment. `types`, `imports` or `canonicals` begins a section of the library; each line of it is a row, or a
-//! step after `step`. `crate` stands for a section that wasm-encoder writes, and the rest of the line says what it is.
+//! `;` begins a comment. `types`, `imports`, `canonicals`, `core-instances` or `instances` begins a section of the library; each
+//! line of it is a row, or a step after `step`. `crate` stands for a section that wasm-encoder writes, and the rest of the line says
+//! what it is.
 //! In a row a number is a word, "text" a name, @5 the value type of index 5, and other words are in the list below.
 
 use crate::growing::Growing;
-use crate::tbaunarith::{Refused, CANONICALS, IMPORTS, TYPES};
+use crate::tbaunarith::{Refused, CANONICALS, CORE_INSTANCES, IMPORTS, INSTANCES, TYPES};
 
 // The samples, whose rows a user of wasm-encoder would write as in stations.rs.
 pub const JUDGE: &str = include_str!("../samples/judge.txt");
 pub const PUMP: &str = include_str!("../samples/pump.txt");
 pub const WATCH: &str = include_str!("../samples/watch.txt");
+pub const GAUGE: &str = include_str!("../samples/gauge.txt");
 pub const NEWER: &str = include_str!("../samples/newer.txt");
 
 /// A component's sections, and the pool of all their names.
@@ -55,6 +57,8 @@ impl Sample {
             "types" => Some(TYPES),
             "imports" => Some(IMPORTS),
             "canonicals" => Some(CANONICALS),
+            "core-instances" => Some(CORE_INSTANCES),
+            "instances" => Some(INSTANCES),
             _ if line.starts_with("crate ") => None,
             _ => {
                 let entry = self.entry(line)?;
@@ -142,10 +146,15 @@ const VOCABULARY: &[(&str, &[u32])] = &[
     ("primitive", &[0]), ("record", &[1]), ("variant", &[2]), ("list", &[3]), ("map", &[4]), ("fixed-list", &[5]), ("tuple", &[6]),
     ("flags", &[7]), ("enum", &[8]), ("option", &[9]), ("result", &[10]), ("own", &[11]), ("borrow", &[12]), ("future", &[13]),
     ("stream", &[14]), ("function", &[15, 0]), ("async-function", &[15, 1]), ("resource", &[16]), ("i32", &[0]), ("i64", &[1]),
-    // An import; whether each of its three options is there; its reference.
+    // An import; whether each of the three options of a name is there; an import's reference.
     ("import", &[17]), ("without", &[0, 0, 0]), ("plain", &[0, 0, 0, 0, 0, 0, 0, 0, 0]), ("with", &[1]),
     ("of-module", &[0]), ("of-function", &[1]), ("of-value", &[2]), ("equal-to", &[3, 0]), ("fresh-resource", &[3, 1, 0]),
     ("of-component", &[4]), ("of-instance", &[5]),
+    // Instances; kinds of core items; sorts of arguments and items.
+    ("instantiate-core", &[18]), ("instantiate", &[19]), ("core-items", &[20]), ("items", &[21]),
+    ("core:function", &[0]), ("core:table", &[1]), ("core:memory", &[2]), ("core:global", &[3]), ("core:tag", &[4]),
+    ("sort:module", &[0]), ("sort:function", &[1]), ("sort:value", &[2]), ("sort:type", &[3]), ("sort:component", &[4]),
+    ("sort:instance", &[5]),
     // Canonicals.
     ("lift", &[0x100]), ("lower", &[0x101]), ("resource.new", &[0x102]), ("resource.drop", &[0x103]), ("resource.rep", &[0x104]),
     ("task.cancel", &[0x105]), ("subtask.cancel", &[0x106]), ("context.get", &[0x10a]), ("context.set", &[0x10b]),

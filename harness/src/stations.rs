@@ -4,9 +4,10 @@ use std::borrow::Cow;
 use wasm_encoder::PrimitiveValType::*;
 use wasm_encoder::{
     CanonicalOption, CodeSection, ComponentBuilder, ComponentDefinedTypeEncoder, ComponentExportKind, ComponentExternName,
-    ComponentType, ComponentTypeRef, ComponentValType, CompositeInnerType, CompositeType, EntityType, ExportKind, ExportSection,
-    FuncType, Function, FunctionSection, ImportSection, InstanceType, Instruction, MemorySection, MemoryType, Module, ModuleArg,
-    ModuleType, RefType, SubType, TableSection, TableType, TypeBounds, TypeSection, ValType,
+    ComponentType, ComponentTypeRef, ComponentValType, CompositeInnerType, CompositeType, ConstExpr, EntityType, ExportKind,
+    ExportSection, FuncType, Function, FunctionSection, GlobalSection, GlobalType, ImportSection, InstanceType, Instruction,
+    MemorySection, MemoryType, Module, ModuleArg, ModuleType, RefType, SubType, TableSection, TableType, TagKind, TagSection,
+    TagType, TypeBounds, TypeSection, ValType,
 };
 
 /// The judge: takes a cylinder with its limits and the readings of a test, and gives its verdict.
@@ -207,7 +208,101 @@ fn watch_builtins(component: &mut ComponentBuilder, indices: [u32; 5]) -> Vec<(&
     ]
 }
 
-/// What is newer than the tool that validates: async function types, maps, import options, and built-ins.
+/// The gauge: two modules, the second instantiated with the first, and a panel that is given one of everything.
+pub fn gauge() -> Vec<u8> {
+    let mut component = ComponentBuilder::default();
+    let unit = defined(&mut component, |new| new.enum_type(["bar", "psi"]));
+    let unit = import_type(&mut component, "unit", unit);
+    let (read_type, mut new) = component.type_function(None);
+    new.params::<[(&str, ComponentValType); 0], _>([]).result(Some(F64.into()));
+    let tolerance = component.import("tolerance", ComponentTypeRef::Value(F64.into()));
+    let sensor = component.core_module(None, &sensor_module());
+    let sensing = component.core_instantiate(None, sensor, []);
+    let parts = [
+        ("sample", ExportKind::Func),
+        ("table", ExportKind::Table),
+        ("memory", ExportKind::Memory),
+        ("zero", ExportKind::Global),
+        ("fault", ExportKind::Tag),
+    ];
+    let parts = parts.map(|(name, kind)| (name, kind, component.core_alias_export(None, sensing, name, kind)));
+    let parts = component.core_instantiate_exports(None, parts);
+    let nothing = component.core_instantiate_exports(None, []);
+    let code = core_module(&[("sensor", "sample", ">d"), ("parts", "sample", ">d")], &[("read", ">d")]);
+    let given = [("sensor", sensing), ("parts", parts), ("none", nothing)];
+    let (_, [read]) =
+        instantiated(&mut component, &code, given.map(|(name, instance)| (name, ModuleArg::Instance(instance))), ["read"]);
+    let read = component.lift_func(None, read, read_type, []);
+    let reading = [("read", ComponentExportKind::Func, read), ("unit", ComponentExportKind::Type, unit)];
+    let reading = component.instantiate_exports(None, reading);
+    let spare = component.component(None, ComponentBuilder::default());
+    let panel = component.component(None, panel());
+    component.instantiate(None, spare, [("unheard", ComponentExportKind::Func, read)]);
+    let given = [
+        ("sensor", ComponentExportKind::Module, sensor),
+        ("read", ComponentExportKind::Func, read),
+        ("tolerance", ComponentExportKind::Value, tolerance),
+        ("unit", ComponentExportKind::Type, unit),
+        ("spare", ComponentExportKind::Component, spare),
+        ("gauge", ComponentExportKind::Instance, reading),
+    ];
+    let panel = component.instantiate(None, panel, given);
+    let all = [
+        ("sensor", ComponentExportKind::Module, sensor),
+        ("spare", ComponentExportKind::Component, spare),
+        ("panel", ComponentExportKind::Instance, panel),
+    ];
+    let all = component.instantiate_exports(None, all);
+    component.export("station:parts/gauge@1.0.0", ComponentExportKind::Instance, reading, None);
+    component.export("all", ComponentExportKind::Instance, all, None);
+    component.finish()
+}
+
+/// The first of the gauge's modules, with something of each kind that a core module exports.
+fn sensor_module() -> Module {
+    let (mut types, mut bodies) = (TypeSection::new(), CodeSection::new());
+    types.ty().func_type(&function_type(">d"));
+    types.ty().func_type(&function_type("i>"));
+    bodies.function(Function::new([]).instruction(&Instruction::Unreachable).instruction(&Instruction::End));
+    let mut module = Module::new();
+    module.section(&types).section(FunctionSection::new().function(0));
+    module.section(TableSection::new().table(EMPTY_TABLE)).section(MemorySection::new().memory(ONE_PAGE));
+    module.section(TagSection::new().tag(TagType { kind: TagKind::Exception, func_type_idx: 1 }));
+    let zero = GlobalType { val_type: ValType::F64, mutable: true, shared: false };
+    module.section(GlobalSection::new().global(zero, &ConstExpr::f64_const(0.0.into())));
+    let mut exported = ExportSection::new();
+    exported.export("sample", ExportKind::Func, 0).export("table", ExportKind::Table, 0);
+    exported.export("memory", ExportKind::Memory, 0).export("zero", ExportKind::Global, 0).export("fault", ExportKind::Tag, 0);
+    module.section(&exported).section(&bodies);
+    module
+}
+
+/// The gauge's panel, which imports something of each sort, and shows the value.
+fn panel() -> ComponentBuilder {
+    let mut component = ComponentBuilder::default();
+    let (sample, new) = component.core_type(None);
+    let mut sensor = ModuleType::new();
+    sensor.ty().func_type(&function_type(">d"));
+    new.module(sensor.export("sample", EntityType::Function(0)));
+    component.import("sensor", ComponentTypeRef::Module(sample));
+    let (read, mut new) = component.type_function(None);
+    new.params::<[(&str, ComponentValType); 0], _>([]).result(Some(F64.into()));
+    component.import("read", ComponentTypeRef::Func(read));
+    let tolerance = component.import("tolerance", ComponentTypeRef::Value(F64.into()));
+    let unit = defined(&mut component, |new| new.enum_type(["bar", "psi"]));
+    import_type(&mut component, "unit", unit);
+    let spare = component.type_component(None, &ComponentType::new());
+    component.import("spare", ComponentTypeRef::Component(spare));
+    let mut gauge = InstanceType::new();
+    gauge.ty().function().params::<[(&str, ComponentValType); 0], _>([]).result(Some(F64.into()));
+    gauge.export("read", ComponentTypeRef::Func(0));
+    let gauge = component.type_instance(None, &gauge);
+    component.import("gauge", ComponentTypeRef::Instance(gauge));
+    component.export("tolerance-shown", ComponentExportKind::Value, tolerance, None);
+    component
+}
+
+/// What is newer than the tool that validates: async function types, maps, options of names, and built-ins.
 pub fn newer() -> Vec<u8> {
     let mut component = ComponentBuilder::default();
     let limits = defined(&mut component, |new| new.map(String, F64));
@@ -226,7 +321,7 @@ pub fn newer() -> Vec<u8> {
     component.import(versioned, ComponentTypeRef::Func(run));
     let known_outside =
         ComponentExternName { external_id: Some(Cow::Borrowed("red-button")), ..ComponentExternName::from("stop") };
-    component.import(known_outside, ComponentTypeRef::Func(stop));
+    let stop = component.import(known_outside.clone(), ComponentTypeRef::Func(stop));
     component.stream_forward(samples);
     component.future_forward(note);
     component.context_get(ValType::I64, 1);
@@ -235,6 +330,9 @@ pub fn newer() -> Vec<u8> {
     component.thread_yield_then_resume();
     component.thread_suspend_then_promote();
     component.thread_yield_then_promote();
+    let button = ComponentExternName { version_suffix: Some(Cow::Borrowed(".1")), ..known_outside };
+    let buttons = [(button, ComponentExportKind::Func, stop), ("halt".into(), ComponentExportKind::Func, stop)];
+    component.instantiate_exports(None, buttons);
     component.finish()
 }
 

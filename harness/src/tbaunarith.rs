@@ -102,6 +102,8 @@ pub struct Section {
 }
 
 /// The families, which are the sections' ids.
+pub const CORE_INSTANCES: u64 = 2;
+pub const INSTANCES: u64 = 5;
 pub const TYPES: u64 = 7;
 pub const CANONICALS: u64 = 8;
 pub const IMPORTS: u64 = 10;

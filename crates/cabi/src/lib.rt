@@ -219,7 +219,13 @@ fn is_ready(state: &[u64; 5], n: usize) -> bool
                     if state[0] == 8 {
                         return true;
                     }
-                    return state[0] == 10;
+                    if state[0] == 10 {
+                        return true;
+                    }
+                    if state[0] == 2 {
+                        return true;
+                    }
+                    return state[0] == 5;
                 }
             }
         }

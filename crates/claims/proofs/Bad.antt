@@ -28,12 +28,13 @@ use Rattle.writing.specs.Binary.{name, primvaltype, flag, slotAt, slotsAt, slot
 use Rattle.reading.specs.Fill.{primitive, fillName, fillExtern, fillSlots, fillSlot, fillReference, fill}
 use Rattle.fields.specs.Words.{wide}
 use Rattle.writing.specs.Judge.{named, optionalName, reference, flaw, judge}
-use Rattle.fields.specs.Answers.{LeftRow, leftRow, numberOfRefusal, numberOf, Left, left, refuse}
+use Rattle.fields.specs.Answers.{LeftRow, leftRow, numberOf, Left, left, refuse}
 use Rattle.reading.specs.Read.{roomed, readItem}
 use Rattle.writing.specs.Row.{measuredRow, rowBytes, writeRow}
 use Rattle.reading.specs.Scan.{scanIndex, scanName, scanPrimitive, headScan, firstScan, secondScan, scanExtern, slotScan, endScan, scanReference, scan}
-use Rattle.fields.specs.Shape.{seq, widths, rowWidth}
+use Rattle.fields.specs.Shape.{repeated, seq, widths, rowWidth}
 use Rattle.fields.specs.Table.{shapeIn}
+use Rattle.fields.specs.View.{view}
 use Rattle.fields.specs.Walk.{walk, outs}
 use Rattle.writing.specs.Write.{sized, measured, stored}
 use Rattle.items.specs.ReadType.{kindIn, kindOf, leadGrade, readType}
@@ -41,6 +42,7 @@ use Rattle.types.specs.Write.{measuredType, writeType}
 use Rattle.items.specs.ReadImport.{readImport}
 use Rattle.imports.specs.Write.{writeImport}
 use Rattle.canonicals.specs.Write.{canonicalBytes, measuredCanonical, writeCanonical}
+use Rattle.instances.specs.Write.{writeCoreInstance, writeInstance}
 use Rattle.sections.specs.declared.Phase.the-variants.{Closed}
 use Rattle.sections.specs.declared.Section.{Section}
 use Rattle.sections.specs.Runs.{IsSize}
@@ -52,34 +54,16 @@ use Rattle.sheets.specs.Frame as frame
 use Rattle.sheets.specs.Sheet.{familyOf, tries, joined, finished, sheeted}
 use Rattle.claims.specs.Bad.{Lent, Writer, SameBytes, WritesNothing, Reader, AlwaysNewer, BadVersions}
 use Rattle.claims.specs.Kept.{numberOfRead}
+use Rattle.claims.proofs.Kept.{refusal-number}
 
 -- a clause that holds states what cannot be refuted
 told : {P : Type 0} → fact (w₀ .𝓤) P .holds (w₀ .𝓤 .one) → (P → ⊥) → ⊥
 told h f = ∥∥₁-elim h ⊥-prop (λ t. f (t .0))
 
--- no refusal has the number 0
-refused : (w : Refusal) → numberOfRefusal w ≡ 0 → ⊥
-unfolding numberOfRefusal
-refused refusal.Limit e = omega (arith, e)
-refused refusal.Kind e = omega (arith, e)
-refused refusal.Row e = omega (arith, e)
-refused refusal.Tag e = omega (arith, e)
-refused refusal.Range e = omega (arith, e)
-refused refusal.Text e = omega (arith, e)
-refused refusal.TooBig e = omega (arith, e)
-refused refusal.Room e = omega (arith, e)
-refused refusal.Order e = omega (arith, e)
-refused refusal.Count e = omega (arith, e)
-refused refusal.Cut e = omega (arith, e)
-refused refusal.Code e = omega (arith, e)
-refused refusal.Number e = omega (arith, e)
-refused refusal.Newer e = omega (arith, e)
-refused refusal.Sheet e = omega (arith, e)
-
 sized-by : (r : Answer) → numberOf r ≡ 0 → IsSize r
 unfolding numberOf
 sized-by (Size n) e = tt
-sized-by (Refused w n) e = absurd (refused w e)
+sized-by (Refused w n) e = absurd (refusal-number w e)
 
 -- ---- the small inputs
 
@@ -109,6 +93,10 @@ functionBytes i = 0x00 ∷ 0x01 ∷ 0x66 ∷ 0x01 ∷ i ∷ []
 -- canonicals that are their lead alone
 abbrev bare : ℕ → List ℕ
 bare lead = (256 + lead) ∷ []
+
+-- instances of module or component i with no arguments
+abbrev instance-of : ℕ → ℕ → List ℕ
+instance-of kind i = kind ∷ i ∷ 0 ∷ []
 
 -- room
 abbrev zeros : ℕ → List ℕ
@@ -166,6 +154,18 @@ drop-written : writeCanonical (bare 0x0d) [] (zeros 1) 0 ≡ left (Size 1) (0x0d
 unfolding bytes wide flaw judge measuredRow rowBytes seq widths rowWidth shapeIn walk outs sized measured stored canonicalBytes measuredCanonical writeCanonical
 drop-written = refl
 
+core-written : (i : ℕ) → i ≤ 1 → writeCoreInstance (instance-of 18 i) [] (zeros 3) 0 ≡ left (Size 3) (0x00 ∷ i ∷ 0x00 ∷ [])
+unfolding bytesOf bytes wide flaw judge measuredRow rowBytes writeRow repeated seq widths rowWidth shapeIn view walk outs sized measured stored writeCoreInstance
+core-written zero h = refl
+core-written (suc zero) h = refl
+core-written (suc (suc i)) h = absurd (omega (arith, h))
+
+instance-written : (i : ℕ) → i ≤ 1 → writeInstance (instance-of 19 i) [] (zeros 3) 0 ≡ left (Size 3) (0x00 ∷ i ∷ 0x00 ∷ [])
+unfolding bytesOf bytes wide flaw judge measuredRow rowBytes writeRow repeated seq widths rowWidth shapeIn view walk outs sized measured stored writeInstance
+instance-written zero h = refl
+instance-written (suc zero) h = refl
+instance-written (suc (suc i)) h = absurd (omega (arith, h))
+
 string-read : (g : ℕ) → 1 ≤ g → g ≤ 3 → readType g (0x73 ∷ []) (zeros 2) ≡ leftRow (read.Item 2 1) string
 unfolding kindIn kindOf leadGrade readType readItem roomed scanPrimitive scan primitive fill seq shapeIn walk outs
 string-read zero h k = absurd (omega (arith, h))
@@ -213,6 +213,10 @@ ok e = ap (λ l. numberOf (l .answer)) e
 turned-ok : {t : Turn} {s : Section} {n : ℕ} {body : List ℕ} → t ≡ turned (gives s (Size n)) body → numberOf (t .gave .answer) ≡ 0
 unfolding numberOf
 turned-ok e = ap (λ t. numberOf (t .gave .answer)) e
+
+-- a writer that leaves what a contract names
+abbrev names : (List ℕ → List ℕ → List ℕ → ℕ → Left) → Writer
+names write κs a = let l = write (now (a .0)) (now (a .1 .0)) (now (a .1 .1 .0)) (a .1 .1 .1 .0) in (l .answer, (tt, (tt, (l .buffer, (tt, tt)))))
 
 -- a writer of any family, by what it writes of one row and of another
 module _ (write : List ℕ → List ℕ → List ℕ → ℕ → Left) (v : Writer)
@@ -266,7 +270,7 @@ record Counts (count : ℕ) (l : Left) : Type 0 where
 
 refusing : {count n : ℕ} {w : Refusal} {out : List ℕ} → Counts count (refuse w n out)
 unfolding numberOf
-refusing {w = w} = record { right = λ e. absurd (refused w e) }
+refusing {w = w} = record { right = λ e. absurd (refusal-number w e) }
 
 either : {count : ℕ} (b : Bool) {x y : Left} → Counts count x → Counts count y → Counts count (cond b x y)
 either true h k = h
@@ -306,18 +310,11 @@ open-counts s body e = accepted-grows (open-turns s body) (sized-by _ e) .counts
 pub bad-versions : BadVersions
 bad-versions = record {
   -- what the contract names is the outcome
-  write-type-met = (
-    (λ κs a. let l = writeType (now (a .0)) (now (a .1 .0)) (now (a .1 .1 .0)) (a .1 .1 .1 .0) in (l .answer, (tt, (tt, (l .buffer, (tt, tt)))))),
-    (λ κs a g. ∣ (refl, tt) ∣₁),
-  );
-  write-import-met = (
-    (λ κs a. let l = writeImport (now (a .0)) (now (a .1 .0)) (now (a .1 .1 .0)) (a .1 .1 .1 .0) in (l .answer, (tt, (tt, (l .buffer, (tt, tt)))))),
-    (λ κs a g. ∣ (refl, tt) ∣₁),
-  );
-  write-canonical-met = (
-    (λ κs a. let l = writeCanonical (now (a .0)) (now (a .1 .0)) (now (a .1 .1 .0)) (a .1 .1 .1 .0) in (l .answer, (tt, (tt, (l .buffer, (tt, tt)))))),
-    (λ κs a g. ∣ (refl, tt) ∣₁),
-  );
+  write-type-met = (names writeType, (λ κs a g. ∣ (refl, tt) ∣₁));
+  write-import-met = (names writeImport, (λ κs a g. ∣ (refl, tt) ∣₁));
+  write-canonical-met = (names writeCanonical, (λ κs a g. ∣ (refl, tt) ∣₁));
+  write-core-instance-met = (names writeCoreInstance, (λ κs a g. ∣ (refl, tt) ∣₁));
+  write-instance-met = (names writeInstance, (λ κs a g. ∣ (refl, tt) ∣₁));
   read-type-met = (
     (λ κs a. let l = readType (a .1 .0) (now (a .0)) (now (a .1 .1 .0)) in (l .answer, (tt, (tt, (l .row, tt))))),
     (λ κs a g. ∣ (refl, tt) ∣₁),
@@ -342,6 +339,8 @@ bad-versions = record {
   write-type-refuses = λ v bad h. writer-refuses writeType v h string-written bad;
   write-import-refuses = λ v bad h. writer-refuses writeImport v h (function-written 0 (omega arith)) bad;
   write-canonical-refuses = λ v bad h. writer-refuses writeCanonical v h cancel-written bad;
+  write-core-instance-refuses = λ v bad h. writer-refuses writeCoreInstance v h (core-written 0 (omega arith)) bad;
+  write-instance-refuses = λ v bad h. writer-refuses writeInstance v h (instance-written 0 (omega arith)) bad;
   read-type-refuses = λ v bad h. reader-refuses readType v h string-read bad;
   read-import-refuses = λ v bad h. reader-refuses readImport v h function-read bad;
   row-refuses = λ v bad h. told (h (lifetimes 3) adding tt) (λ p. bad (lifetimes 3) adding (turned-ok (p ∙ row-added)));
@@ -354,9 +353,15 @@ bad-versions = record {
   write-import-same = λ v bad h.
       writer-same writeImport v h (function-written 0 (omega arith)) (function-written 1 (omega arith)) (apart 4 (λ e. omega (arith, e))) bad;
   write-canonical-same = λ v bad h. writer-same writeCanonical v h cancel-written drop-written (apart 0 (λ e. omega (arith, e))) bad;
+  write-core-instance-same = λ v bad h.
+      writer-same writeCoreInstance v h (core-written 0 (omega arith)) (core-written 1 (omega arith)) (apart 1 (λ e. omega (arith, e))) bad;
+  write-instance-same = λ v bad h.
+      writer-same writeInstance v h (instance-written 0 (omega arith)) (instance-written 1 (omega arith)) (apart 1 (λ e. omega (arith, e))) bad;
   write-type-nothing = λ v bad h. writer-nothing writeType v h string-written (apart 0 (λ e. omega (arith, e))) bad;
   write-import-nothing = λ v bad h. writer-nothing writeImport v h (function-written 0 (omega arith)) (apart 1 (λ e. omega (arith, e))) bad;
   write-canonical-nothing = λ v bad h. writer-nothing writeCanonical v h cancel-written (apart 0 (λ e. omega (arith, e))) bad;
+  write-core-instance-nothing = λ v bad h. writer-nothing writeCoreInstance v h (core-written 1 (omega arith)) (apart 1 (λ e. omega (arith, e))) bad;
+  write-instance-nothing = λ v bad h. writer-nothing writeInstance v h (instance-written 1 (omega arith)) (apart 1 (λ e. omega (arith, e))) bad;
   row-only-says-ok = λ v bad h.
       told (h (lifetimes 3) adding tt) (λ p.
       apart 1 (λ e. omega (arith, e)) (ap (λ t. t .body) (sym (p ∙ row-added))

@@ -1,14 +1,14 @@
 -- Each item of the bench is written as its bytes, and each reading is refused as it says, by computation.
 use Prim.Native.Nat.{ℕ}
 use mathlib.Core.Path.{_≡_, refl}
-use mathlib.Core.Bool.{Bool, true, false, cond}
+use mathlib.Core.Bool.{cond}
 use mathlib.Core.List.{List, [], _∷_}
 use lib.ListN.{length}
 use Rattle.numbers.specs.Leb.{bytesOf, takeIn, within32, numberIn, more}
 use Rattle.numbers.specs.Text.{text, rest, step}
 use Rattle.fields.specs.declared.Answer.the-variants.{Size}
 use Rattle.fields.specs.declared.Read.the-variants as read
-use Rattle.writing.specs.Binary.{name, primvaltype, valtype, optional, resultlist, functype, flag, slotAt, slotsAt, slots, externname, typebound, externdesc, bytes}
+use Rattle.writing.specs.Binary.{name, primvaltype, valtype, optional, resultlist, functype, flag, slotAt, slotsAt, slots, externname, typebound, externdesc, argument, sortidx, bytes}
 use Rattle.reading.specs.Fill.{primitive, fillValue, fillName, fill}
 use Rattle.fields.specs.Words.{wide}
 use Rattle.writing.specs.Judge.{value, optionalValue, named, optionalName, reference, flaw, judge}
@@ -25,6 +25,8 @@ use Rattle.items.specs.ReadType.{kindIn, kindOf, leadGrade, readType}
 use Rattle.types.specs.Write.{writeType}
 use Rattle.items.specs.ReadImport.{readImport}
 use Rattle.imports.specs.Write.{writeImport}
+use Rattle.instances.specs.Write.{writeCoreInstance, writeInstance}
+use Rattle.sections.specs.Section.{writeFamily}
 use Rattle.claims.specs.Bench.{Item, Reading, Line, Written, Refused, bench}
 
 -- a buffer as long as the bytes
@@ -35,8 +37,7 @@ blank (b ∷ bs) = 0 ∷ blank bs
 -- the writer of the item's family puts exactly the bytes into a buffer of their size
 abbrev pub AsWritten : Item → Type 0
 AsWritten i =
-    cond (i .import) (writeImport (i .row) (i .pool) (blank (i .bytes)) 0) (writeType (i .row) (i .pool) (blank (i .bytes)) 0)
-    ≡ left (Size (length (i .bytes))) (i .bytes)
+    writeFamily (i .family) (i .row) (i .pool) (blank (i .bytes)) 0 ≡ left (Size (length (i .bytes))) (i .bytes)
 
 -- the reader of the family says the number and the place, and leaves every row as it was
 abbrev pub AsRefused : Reading → Type 0
@@ -50,7 +51,7 @@ All (Written i ∷ ls) = AsWritten i × All ls
 All (Refused r ∷ ls) = AsRefused r × All ls
 
 pub bench-is-written : All bench
-unfolding bytesOf text rest step name primvaltype valtype optional resultlist functype flag slotAt slotsAt slots externname typebound externdesc bytes wide value optionalValue named optionalName reference flaw judge measuredRow rowBytes writeRow repeated seq widths rowWidth shapeIn view walk outs sized measured stored writeType writeImport takeIn within32 numberIn more kindIn kindOf leadGrade readType readImport readItem roomed scanIndex scanName scanPrimitive scanValue headScan firstScan secondScan scanExtern scan primitive fillValue fillName fill
+unfolding bytesOf text rest step name primvaltype valtype optional resultlist functype flag slotAt slotsAt slots externname typebound externdesc argument sortidx bytes wide value optionalValue named optionalName reference flaw judge measuredRow rowBytes writeRow repeated seq widths rowWidth shapeIn view walk outs sized measured stored writeType writeImport writeCoreInstance writeInstance writeFamily takeIn within32 numberIn more kindIn kindOf leadGrade readType readImport readItem roomed scanIndex scanName scanPrimitive scanValue headScan firstScan secondScan scanExtern scan primitive fillValue fillName fill
 bench-is-written = (
   refl,
   (
@@ -77,7 +78,7 @@ bench-is-written = (
                         refl,
                         (
                           refl,
-                          (refl, ((λ room. refl), ((λ room. refl), ((λ room. refl), ((λ room. refl), tt))))),
+                          (refl, (refl, (refl, ((λ room. refl), ((λ room. refl), ((λ room. refl), ((λ room. refl), tt))))))),
                         ),
                       ),
                     ),

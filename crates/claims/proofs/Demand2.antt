@@ -4,48 +4,23 @@ use native.Mathlib.Omega.{arith}
 use mathlib.Core.Path.{_≡_, refl, sym, ap, _∙_, subst}
 use mathlib.Core.Bool.{Bool, true, false, cond}
 use mathlib.Core.List.{List, [], _∷_, _++_}
-use borrow.Author.Tests.{le-ltb, eqb-true, eq-eqb}
+use borrow.Author.Tests.{le-ltb}
 use lib.Dec.{eqb, ltb, leb}
-use lib.ListN.{length, take, drop}
+use lib.ListN.{length, take}
 use lib.Seq.{sets}
 use Rattle.numbers.specs.Bytes.{Bytes}
-use Rattle.numbers.specs.Leb.{bytesOf, unsigned}
-use Rattle.numbers.proofs.LebLaws.{all-bytes}
+use Rattle.numbers.specs.Leb.{unsigned}
 use Rattle.fields.specs.declared.Answer.{Answer}
 use Rattle.fields.specs.declared.Answer.the-variants.{Size, Refused}
-use Rattle.fields.specs.declared.Field.the-variants as field
-use Rattle.fields.specs.declared.Found.{Found}
-use Rattle.fields.specs.declared.Found.the-variants.{Is, Not}
 use Rattle.fields.specs.declared.Leaf.{Leaf}
 use Rattle.fields.specs.declared.Leaf.the-variants.{Fine, Bad}
 use Rattle.fields.specs.declared.Refusal.{Refusal}
 use Rattle.fields.specs.declared.Refusal.the-variants as refusal
-use Rattle.fields.specs.Words.{word, Words, wide}
-use Rattle.writing.specs.Binary.{canonopt, bytes}
-use Rattle.writing.specs.Row.{measuredRow, rowBytes}
-use Rattle.fields.specs.Shape.{plan, widths, rowWidth}
-use Rattle.fields.specs.Table.{Line, line, shapeIn}
-use Rattle.fields.specs.Walk.{outs}
-use Rattle.writing.specs.Write as shapes
+use Rattle.fields.specs.Words.{word, Words}
 use Rattle.fields.specs.Answers.{Left, left, refuse}
-use Rattle.writing.specs.Write.{writer, stored}
-use Rattle.writing.proofs.AnswerLaws.{Sized}
+use Rattle.writing.specs.Write.{stored}
 use Rattle.writing.proofs.ByteLaws.{ByteList, none, some, append-bytes, to-bytes, of-bytes}
-use Rattle.writing.proofs.GroupLaws.{choice-element}
-use Rattle.writing.proofs.RowLaws.{only-groups}
-use Rattle.writing.proofs.TableLaws.{strings, written-right}
-use Rattle.writing.proofs.TableRows.{every, row-of}
 use Rattle.writing.proofs.WholeLaws.{accepted}
-use Rattle.types.specs.Write as typeWrite
-use Rattle.types.specs.Write.{measuredType}
-use Rattle.types.proofs.Rows.{type-row}
-use Rattle.imports.specs.Write as importWrite
-use Rattle.imports.specs.Write.{measuredImport}
-use Rattle.imports.proofs.Rows.{import-row}
-use Rattle.canonicals.specs.Table as canonicalTable
-use Rattle.canonicals.specs.Table.{liftShape, lift}
-use Rattle.canonicals.specs.Write.{measuredCanonical, canonicalBytes}
-use Rattle.canonicals.proofs.Rows.{canonical-row}
 use Rattle.sections.specs.declared.Phase.the-variants.{Closed}
 use Rattle.sections.specs.declared.Section.{Section}
 use Rattle.sections.specs.declared.Turned.{Turned}
@@ -55,19 +30,22 @@ use Rattle.sections.specs.Section.{fresh, knownFamily, opened, sounds, measured
 use Rattle.sections.specs.Steps.{turned, gives, wrote, rowing}
 use Rattle.sections.proofs.BegunFresh.{begun-fresh}
 use Rattle.sections.proofs.FamilyLaws.{family-stored, family-size}
+use Rattle.sections.proofs.StepLaws.{family-small}
 use Rattle.sections.proofs.TurnLaws.{accepted-size, accepted-grows, row-turns}
 use Rattle.sheets.specs.Frame as frame
 use Rattle.sheets.specs.Frame.{Rows, Are, Broken, listed}
 use Rattle.sheets.specs.Sheet as sheet
 use Rattle.sheets.specs.Sheet.{familyOf, tried, tries, joined, ofRows, sheeted}
 use Rattle.sheets.proofs.FamilyLaws.{family-written}
-use Rattle.claims.specs.Valid.{Family, types, canonicals, imports, Takes, Valid, production, productions, section, beside, entries}
+use Rattle.claims.specs.Valid.{Family, core-instances, instances, types, canonicals, imports, Takes, Valid, production, productions, section, beside, entries}
 use Rattle.claims.specs.Demand2.{AllValid, AllWords, Made, Demand2}
-use Rattle.claims.proofs.Production.{family-production}
+use Rattle.claims.proofs.Families.{on-test, on-family}
+use Rattle.claims.proofs.Production.{leb-bytes, family-right, family-production}
 use Rattle.numbers.proofs.Impossible.{impossible}
 use Rattle.types.proofs.Productions.{types-agree}
 use Rattle.imports.proofs.Productions.{imports-agree}
 use Rattle.canonicals.proofs.Productions.{canonicals-agree}
+use Rattle.instances.proofs.Productions.{core-instances-agree, instances-agree}
 
 -- a refusal is no size
 no-size : {X : Type 0} {w : Refusal} {n size : ℕ} → Refused w n ≡ Size size → X
@@ -77,27 +55,22 @@ no-size e = impossible cc
 
 -- a row that has a size keeps within the limits, and so does its pool
 within : (family : ℕ) (row pool : List ℕ) (size : ℕ) → measuredFamily family row pool ≡ Size size → (length row ≤ 16384) × (length pool ≤ 65536)
-unfolding measuredFamily measuredType measuredImport measuredCanonical
-within family row pool size e = go (eqb family 7) (eqb family 8) (eqb family 10) e
-  where
-    of : (found : Found) → measuredRow found row pool ≡ Size size → (length row ≤ 16384) × (length pool ≤ 65536)
-    of found e = let k = accepted found row pool size e .sized in (k .short, k .small)
-
-    go : (a b c : Bool)
-        → cond a (measuredType row pool)
-        (cond b (measuredCanonical row pool) (cond c (measuredImport row pool) (Refused refusal.Limit 0))) ≡ Size size
-        → (length row ≤ 16384) × (length pool ≤ 65536)
-    go true b c e = of _ e
-    go false true c e = of _ e
-    go false false true e = of _ e
-    go false false false e = no-size e
+within family row pool size e =
+    on-family (λ a. a ≡ Size size → (length row ≤ 16384) × (length pool ≤ 65536)) family row pool
+    (λ found e. let k = accepted found row pool size e .sized in (k .short, k .small)) (λ e. no-size e) e
 
 -- a fresh section stands over any body
+is-known : {family : ℕ} → Family family → knownFamily family ≡ true
+unfolding knownFamily
+is-known core-instances = refl
+is-known instances = refl
+is-known types = refl
+is-known canonicals = refl
+is-known imports = refl
+
 stands : {family : ℕ} → Family family → (n : ℕ) → sounds (fresh family) n ≡ true
-unfolding sounds knownFamily
-stands types n = simp (le-ltb n 0 (omega arith))
-stands canonicals n = simp (le-ltb n 0 (omega arith))
-stands imports n = simp (le-ltb n 0 (omega arith))
+unfolding sounds
+stands f n = simp (le-ltb n 0 (omega arith), is-known f)
 
 -- the section after its first row
 abbrev grown : ℕ → ℕ → Turned
@@ -225,12 +198,11 @@ finishes family f es body out a size e =
 -- each kind has a section's family
 every-family : (kind : ℕ) → Family (familyOf kind)
 unfolding familyOf
-every-family kind = go (leb 256 kind) (eqb kind 17)
-  where
-    go : (a b : Bool) → Family (cond a 8 (cond b 10 7))
-    go true b = canonicals
-    go false true = imports
-    go false false = types
+every-family kind =
+    on-test Family (leb 256 kind) canonicals
+    (on-test Family (eqb kind 17) imports
+    (on-test Family (eqb kind 18) core-instances
+    (on-test Family (eqb kind 19) instances (on-test Family (eqb kind 20) core-instances (on-test Family (eqb kind 21) instances types)))))
 
 -- rows that are taken, behind r others: how many they then are, and that they are valid and make their productions
 record TriedRows (family : ℕ) (pool : List ℕ) (rs : List (List ℕ)) (r last : ℕ) : Type 0 where
@@ -325,76 +297,12 @@ made-sheet input body out size e = go (ltb 65536 (length input)) e
 
 -- ---- bytes
 
--- a number's bytes are bytes
-leb-bytes : (k n : ℕ) → ByteList (bytesOf 128 k n)
-leb-bytes k n = of-bytes (bytesOf 128 k n) (all-bytes 128 k n (omega arith))
-
--- and so are those behind others
-back-bytes : (a : List ℕ) {b : List ℕ} → ByteList (a ++ b) → ByteList b
-back-bytes [] f = f
-back-bytes (x ∷ a) (some h f) = back-bytes a f
-
--- what the shape of a lift writes, as a line of a table
-abbrev lifts : List Line
-lifts = line 256 liftShape (λ pool ws. outs (writer pool) (plan liftShape) 1 ws) ∷ []
-
-lift-written : (row pool : List ℕ) (size : ℕ) → word row 0 ≡ 256 → measuredRow (Is liftShape) row pool ≡ Size size → Words row → Bytes pool
-    → ByteList (shapes.written liftShape pool row 1)
-unfolding every shapeIn rowBytes widths wide
-lift-written row pool size k e fw fp =
-    let t : eqb (word row 0) 256 ≡ true = eq-eqb _ _ k in
-    let r = row-of lifts ((λ pool row e m r. refl), tt) refl row pool size (ap (λ b. measuredRow (cond b (Is liftShape) Not) row pool) t ∙ e) in
-    of-bytes _ (subst (λ b. Bytes (rowBytes (cond b (Is liftShape) Not) pool row)) t (r .are-bytes fw fp))
-
--- a lift's bytes: the options stand last in what the shape writes, and the other parts are numbers
-lift-behind : (row pool : List ℕ) (size : ℕ) → Sized liftShape row 1 pool size → ByteList (shapes.written liftShape pool row 1)
-    → ByteList (lift (drop 1 row))
-unfolding strings widths rowWidth wide bytes lift
-lift-behind [] pool size k f = absurd (omega (arith, k .width))
-lift-behind (l ∷ []) pool size k f = absurd (omega (arith, k .width))
-lift-behind (l ∷ c ∷ []) pool size k f = absurd (omega (arith, k .width))
-lift-behind (l ∷ c ∷ t ∷ []) pool size k f = absurd (omega (arith, k .width))
-lift-behind (l ∷ c ∷ t ∷ n ∷ os) pool size k f =
-    let same = only-groups pool (field.Choice ∷ field.Nothing ∷ []) (λ vs. canonopt (word vs 0) (word vs 1)) (choice-element pool) n os in
-    let whole = written-right liftShape pool (l ∷ c ∷ t ∷ n ∷ os) 1 (k .end) size (k .judges) in
-    let options = subst ByteList same (back-bytes (unsigned n) (back-bytes (unsigned t) (back-bytes (0x00 ∷ 0x00 ∷ unsigned c) (subst ByteList whole f)))) in
-    some {b = 0x00} (omega arith)
-    (some {b = 0x00} (omega arith) (append-bytes (leb-bytes 5 c) (append-bytes (append-bytes (leb-bytes 5 n) options) (leb-bytes 5 t))))
-
-lift-bytes : (row pool : List ℕ) (size : ℕ) → word row 0 ≡ 256 → measuredRow (Is liftShape) row pool ≡ Size size → Words row → Bytes pool
-    → ByteList (lift (drop 1 row))
-lift-bytes row pool size k e fw fp =
-    let a = accepted (Is liftShape) row pool size e in
-    let same : a .shape ≡ liftShape = cc in
-    let sized : Sized liftShape row 1 pool size = rw same at (a .sized) in
-    lift-behind row pool size sized (lift-written row pool size k e fw fp)
-
--- the bytes of a row of any family
-family-bytes : (family : ℕ) (row pool : List ℕ) (size : ℕ) → measuredFamily family row pool ≡ Size size → Words row → Bytes pool
-    → Bytes (familyBytes family pool row)
-unfolding measuredFamily familyBytes measuredCanonical canonicalBytes
-family-bytes family row pool size e fw fp = go (eqb family 7) (eqb family 8) (eqb family 10) e
-  where
-    canonical : (b : Bool) → eqb (word row 0) 256 ≡ b → measuredRow (cond b (Is liftShape) (shapeIn canonicalTable.table (word row 0))) row pool ≡ Size size
-        → Bytes (cond b (lift (drop 1 row)) (rowBytes (shapeIn canonicalTable.table (word row 0)) pool row))
-    canonical true t e = to-bytes (lift-bytes row pool size (eqb-true _ _ t) e fw fp)
-    canonical false t e = canonical-row row pool size e .are-bytes fw fp
-
-    go : (a b c : Bool)
-        → cond a (measuredType row pool)
-        (cond b (measuredCanonical row pool) (cond c (measuredImport row pool) (Refused refusal.Limit 0))) ≡ Size size
-        → Bytes (cond a (rowBytes (typeWrite.shapeOf (word row 0)) pool row)
-        (cond b (canonicalBytes pool row) (rowBytes (importWrite.shapeOf (word row 0)) pool row)))
-    go true b c e = type-row row pool size e .are-bytes fw fp
-    go false true c e = canonical (eqb (word row 0) 256) refl e
-    go false false true e = import-row row pool size e .are-bytes fw fp
-    go false false false e = no-size e
-
--- and of a production, which they are
+-- those of a production are bytes
 production-bytes : (family : ℕ) (row pool : List ℕ) → Valid family row pool → Words row → Bytes pool → Bytes (production family pool row)
 production-bytes family row pool v fw fp =
     let z = sized-where-taken family row pool (v .0) (v .1) in
-    subst Bytes (family-production family row pool (z .0) (z .1)) (family-bytes family row pool (z .0) (z .1) fw fp)
+    let r = family-right family row pool (z .0) (z .1) in
+    subst Bytes (r .as-production) (r .are-bytes fw fp)
 
 productions-bytes : (family : ℕ) (es : List Entry) → AllValid family es → AllWords es → ByteList (productions family es)
 unfolding productions
@@ -403,20 +311,16 @@ productions-bytes family (e ∷ es) v w =
     append-bytes (of-bytes (production family (e .pool) (e .row)) (production-bytes family (e .row) (e .pool) (v .0) (w .0) (w .1)))
     (productions-bytes family es (v .1) (w .2))
 
--- the id is below 11, and the size and the count are numbers
+-- the id is a byte, and the size and the count are numbers
 framed-bytes : {family : ℕ} → Family family → (es : List Entry) → AllValid family es → AllWords es → Bytes (section family es)
 framed-bytes {family} f es v w =
-    to-bytes (some (id-byte f) (append-bytes (leb-bytes 5 _) (append-bytes (leb-bytes 5 _) (productions-bytes family es v w))))
-  where
-    id-byte : {n : ℕ} → Family n → n < 2 ^ 8
-    id-byte types = omega arith
-    id-byte canonicals = omega arith
-    id-byte imports = omega arith
+    let id : family < 2 ^ 8 = family-small (fresh family) 0 (stands f 0) in
+    to-bytes (some id (append-bytes (leb-bytes 5 _) (append-bytes (leb-bytes 5 _) (productions-bytes family es v w))))
 
 pub demand-2 : Demand2
 demand-2 =
     record {
-      tables-agree = (types-agree, imports-agree, canonicals-agree);
+      tables-agree = (types-agree, imports-agree, canonicals-agree, core-instances-agree, instances-agree);
       valid-measured = λ family f row pool body. (sized-where-taken family row pool body, λ z. taken-where-sized f row pool body (z .0) (z .1) (z .2));
       valid-written = λ family f row pool body t. written f row pool body t;
       written-at = λ family f row pool v out at. at-any-place family row pool v out at;

@@ -37,16 +37,15 @@ use Rattle.types.specs.Table as typeTable
 use Rattle.types.specs.Write as typeWrite
 use Rattle.types.specs.Write.{measuredType, writeType}
 use Rattle.claims.proofs.TypesBack.{type-back, type-only}
-use Rattle.types.proofs.Rows.{type-row}
 use Rattle.items.specs.ReadImport.{readImport}
 use Rattle.imports.specs.Table as importTable
 use Rattle.imports.specs.Write as importWrite
 use Rattle.imports.specs.Write.{measuredImport}
 use Rattle.claims.proofs.ImportsBack.{import-back, import-only}
-use Rattle.imports.proofs.Rows.{import-row}
 use Rattle.sections.specs.Section.{fresh, measuredFamily, familyBytes, writeFamily}
 use Rattle.sections.proofs.TurnLaws.{row-turns, accepted-size}
 use Rattle.claims.specs.Valid.{Valid, production}
+use Rattle.claims.proofs.Production.{family-production}
 use Rattle.claims.proofs.MarkLaws.{tableMarks, of-table, row-mark}
 use Rattle.numbers.proofs.Impossible.{impossible}
 
@@ -57,9 +56,7 @@ valid-size family row pool v = accepted-size (row-turns (fresh family) (v .0) ro
 
 -- its bytes are its production
 pub valid-bytes : (family : ℕ) → Readable family → (row pool : List ℕ) → Valid family row pool → familyBytes family pool row ≡ production family pool row
-unfolding measuredFamily familyBytes production
-valid-bytes family types row pool v = type-row row pool _ (valid-size 7 row pool v) .as-production
-valid-bytes family imports row pool v = import-row row pool _ (valid-size 10 row pool v) .as-production
+valid-bytes family f row pool v = family-production family row pool _ (valid-size family row pool v)
 
 pub valid-measured : (family : ℕ) → Readable family → (row pool : List ℕ) → Valid family row pool
     → measuredFamily family row pool ≡ Size (length (production family pool row))

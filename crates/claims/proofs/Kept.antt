@@ -26,7 +26,7 @@ use Rattle.fields.specs.declared.Refusal.{Refusal}
 use Rattle.fields.specs.declared.Refusal.the-variants as refusal
 use Rattle.fields.specs.declared.Shape.{Shape}
 use Rattle.fields.specs.Words.{word, wide}
-use Rattle.writing.specs.Binary.{valtype}
+use Rattle.writing.specs.Binary.{valtype, externPart}
 use Rattle.reading.specs.Fill.{fill}
 use Rattle.fields.specs.Answers.{LeftRow, leftRow, numberOfRefusal, numberOf, valueOf, left, refuse}
 use Rattle.reading.specs.Read.{reader, scanned, filled, roomed, readFound, readItem}
@@ -45,6 +45,7 @@ use Rattle.types.specs.Write.{writeType}
 use Rattle.items.specs.ReadImport.{readImport}
 use Rattle.imports.specs.Write.{writeImport}
 use Rattle.canonicals.specs.Write.{writeCanonical}
+use Rattle.instances.specs.Write.{writeCoreInstance, writeInstance}
 use Rattle.sections.specs.declared.Phase.{Phase}
 use Rattle.sections.specs.declared.Phase.the-variants.{Closed, Opened, Asynced, Parametered}
 use Rattle.sections.specs.declared.Section.{Section}
@@ -72,7 +73,7 @@ use Rattle.numbers.proofs.Impossible.{impossible}
 -- ---- any buffer
 
 -- no refusal has the number 0
-refusal-number : (w : Refusal) → numberOfRefusal w ≡ 0 → ⊥
+pub refusal-number : (w : Refusal) → numberOfRefusal w ≡ 0 → ⊥
 unfolding numberOfRefusal
 refusal-number refusal.Limit e = omega (arith, e)
 refusal-number refusal.Kind e = omega (arith, e)
@@ -141,6 +142,14 @@ writes-canonical row pool out at = writes-family 8 row pool out at
 writes-import : (row pool out : List ℕ) (at : ℕ) → Writes at out (writeImport row pool out at)
 unfolding writeFamily
 writes-import row pool out at = writes-family 10 row pool out at
+
+writes-core-instance : (row pool out : List ℕ) (at : ℕ) → Writes at out (writeCoreInstance row pool out at)
+unfolding writeFamily
+writes-core-instance row pool out at = writes-family 2 row pool out at
+
+writes-instance : (row pool out : List ℕ) (at : ℕ) → Writes at out (writeInstance row pool out at)
+unfolding writeFamily
+writes-instance row pool out at = writes-family 5 row pool out at
 
 -- ---- reading
 
@@ -478,12 +487,15 @@ changes-nothing-else =
       put-signed = λ n. stores (signed n);
       put-value = λ tag x. stores (valtype tag x);
       put-name = λ pool start size. stores (unsigned size ++ partOf pool start size);
+      put-extern = λ pool ws. stores (externPart pool ws);
       write-type = writes-type;
       write-async = λ a out at. writes-shape types.asyncShape (a ∷ []) 0 [] out at;
       write-params = λ first words pool out at. writes-shape (types.paramsShape first) words 0 pool out at;
       write-result = λ tag x out at. writes-shape types.resultShape (tag ∷ x ∷ []) 0 [] out at;
       write-import = writes-import;
       write-canonical = writes-canonical;
+      write-core-instance = writes-core-instance;
+      write-instance = writes-instance;
       read-type = reads-type;
       read-import = reads-import;
       write-by = writes-family;

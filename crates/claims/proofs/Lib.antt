@@ -3,6 +3,7 @@ pub mod Bench
 pub mod BigShape
 pub mod Demand2
 pub mod Demand3
+pub mod Families
 pub mod ImportsBack
 pub mod Kept
 pub mod MarkLaws

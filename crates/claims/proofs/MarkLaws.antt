@@ -64,6 +64,9 @@ marks family lead field.OptionalIndex = true
 marks family lead field.Choice = true
 marks family lead field.ExternName = marking family 3 0x02
 marks family lead field.Reference = marking family 2 0x64
+marks family lead field.Argument = true
+marks family lead field.CoreSortIndex = true
+marks family lead field.SortIndex = true
 
 abbrev allMark : ℕ → ℕ → List Field → Bool
 allMark family lead [] = true
@@ -213,6 +216,9 @@ module _ (family lead g : ℕ) (any : 1 ≤ g) where
       go : (b : Bool) → Mine (cond b Clear (asks g 3 0)) (cond b (0x00 ∷ plain) (0x02 ∷ more))
       go true = tt
       go false = asked 3 0 (0x02 ∷ more) (first 3 0x02 more k)
+  field-mark pool field.Argument ws k = tt
+  field-mark pool field.CoreSortIndex ws k = tt
+  field-mark pool field.SortIndex ws k = tt
   field-mark pool field.Reference ws k = go (eqb (word ws 0) 2) refl
     where
       x : ℕ

@@ -64,12 +64,15 @@ copies = (0 ∷ [], 0, room) ∷ (0 ∷ [], 0, []) ∷ []
 abbrev pub puts : List (ℕ × ℕ × List ℕ)
 puts = (0, 0, room) ∷ (0, 0, []) ∷ []
 
--- a V, and a name, with room and without
+-- a V, a name and an extern name, with room and without
 abbrev pub values : List (ℕ × ℕ × ℕ × List ℕ)
 values = (0, 0, 0, room) ∷ (0, 0, 0, []) ∷ []
 
 abbrev pub names : List (List ℕ × ℕ × ℕ × ℕ × List ℕ)
 names = ([], 0, 0, 0, room) ∷ ([], 0, 0, 0, []) ∷ []
+
+abbrev pub externs : List (List ℕ × List ℕ × ℕ × List ℕ)
+externs = ([], [], 0, room) ∷ ([], [], 0, []) ∷ []
 
 -- OK, CUT, NUMBER: a number that is not in the shortest form, and one below zero
 abbrev pub unsigneds : List (List ℕ)
@@ -96,12 +99,29 @@ types =
 abbrev import : ℕ → ℕ → List ℕ
 import size sort = 17 ∷ 0 ∷ size ∷ 0 ∷ 0 ∷ 0 ∷ 0 ∷ 0 ∷ 0 ∷ 0 ∷ 0 ∷ 0 ∷ sort ∷ 0 ∷ 0 ∷ []
 
--- an empty row, a sort that is none, a name past the pool, and one that is not UTF-8
-abbrev wrongImports : List (List ℕ × List ℕ)
-wrongImports = ([], []) ∷ (import 0 6, []) ∷ (import 1 1, []) ∷ (import 1 1, 0xff ∷ []) ∷ []
+-- such rows: one that is empty, a sort that is none, a name past the pool, and one that is not UTF-8
+abbrev wrong : (ℕ → ℕ → List ℕ) → ℕ → List (List ℕ × List ℕ)
+wrong row none = ([], []) ∷ (row 0 none, []) ∷ (row 1 1, []) ∷ (row 1 1, 0xff ∷ []) ∷ []
+
+-- before them one that is right, a row too long, and a kind of types
+abbrev named : (ℕ → ℕ → List ℕ) → ℕ → List (List ℕ × List ℕ)
+named row none = (row 0 1, []) ∷ (zeros 16385, []) ∷ (0 ∷ [], []) ∷ wrong row none
 
 abbrev pub imports : List (List ℕ × List ℕ)
-imports = (import 0 1, []) ∷ (zeros 16385, []) ∷ (0 ∷ [], []) ∷ wrongImports
+imports = named import 6
+
+-- a core instance of one item, and an instance of a component with one argument, by such a name and of a sort
+abbrev item : ℕ → ℕ → List ℕ
+item size sort = 20 ∷ 1 ∷ 0 ∷ size ∷ sort ∷ 0 ∷ []
+
+abbrev pub coreInstances : List (List ℕ × List ℕ)
+coreInstances = named item 5
+
+abbrev instance-with : ℕ → ℕ → List ℕ
+instance-with size sort = 19 ∷ 0 ∷ 1 ∷ 0 ∷ size ∷ sort ∷ 0 ∷ []
+
+abbrev pub instances : List (List ℕ × List ℕ)
+instances = named instance-with 6
 
 -- task.cancel, a row too long, a kind of types, an empty row, subtask.cancel with a flag that is 2
 abbrev pub canonicals : List (List ℕ × List ℕ)
@@ -120,20 +140,26 @@ writtenImports = written imports (import 0 1)
 abbrev pub writtenCanonicals : List (List ℕ × List ℕ × List ℕ × ℕ)
 writtenCanonicals = written canonicals (261 ∷ [])
 
+abbrev pub writtenCoreInstances : List (List ℕ × List ℕ × List ℕ × ℕ)
+writtenCoreInstances = written coreInstances (item 0 1)
+
+abbrev pub writtenInstances : List (List ℕ × List ℕ × List ℕ × ℕ)
+writtenInstances = written instances (instance-with 0 1)
+
 -- ---- the same imports by their shape, which asks for no kind; and a row that is TOO_BIG
 
 abbrev pub importShape : Shape
 importShape = twoOf field.Nothing field.Nothing field.ExternName field.Reference
 
 abbrev pub shapes : List (Shape × List ℕ × ℕ × List ℕ)
-shapes = each (λ x. (importShape, x .0, 1, x .1)) ((import 0 1, []) ∷ (zeros 16385, []) ∷ wrongImports)
+shapes = each (λ x. (importShape, x .0, 1, x .1)) ((import 0 1, []) ∷ (zeros 16385, []) ∷ wrong import 6)
 
 abbrev pub founds : List (Found × List ℕ × List ℕ)
 founds =
     (found.Is importShape, import 0 1, [])
     ∷ (found.Is importShape, zeros 16385, [])
     ∷ (found.Not, import 0 1, [])
-    ∷ each (λ x. (found.Is importShape, x .0, x .1)) wrongImports
+    ∷ each (λ x. (found.Is importShape, x .0, x .1)) (wrong import 6)
 
 abbrev pub bigRow : List ℕ
 bigRow = 0 ∷ 4294967295 ∷ []
@@ -268,7 +294,7 @@ abbrev pub sheets : List (List ℕ × List ℕ × List ℕ)
 sheets =
     (1 ∷ word 0 (word 2 (word 0 (word 0 []))), room, room)
     ∷ (zeros 65537, room, room)
-    ∷ (1 ∷ word 0 (word 1 (word 18 [])), room, room)
+    ∷ (1 ∷ word 0 (word 1 (word 22 [])), room, room)
     ∷ (1 ∷ word 0 (word 0 []), room, room)
     ∷ (1 ∷ word 0 (word 2 (word 0 (word 14 []))), room, room)
     ∷ (1 ∷ word 0 (word 4 (word 7 (word 1 (word 0 (word 1 []))))), room, room)

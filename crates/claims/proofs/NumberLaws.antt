@@ -40,6 +40,7 @@ use Rattle.writing.proofs.TableRows.{every, of-every}
 use Rattle.writing.proofs.WholeLaws.{never-too-big}
 use Rattle.claims.specs.Kept.{numberOfRead}
 use Rattle.claims.specs.Numbers.{Among}
+use Rattle.claims.proofs.Families.{on-test}
 use Rattle.numbers.proofs.Impossible.{impossible}
 
 -- ---- a list of numbers as a test
@@ -92,11 +93,6 @@ pub refusal-told : (ns : List ℕ) (l : Leaf) → TellsRead (Listed ns) (refusal
 refusal-told ns (Fine e q) h = among (numberOfRefusal refusal.Room) ns h
 refusal-told ns (Bad w j) h = among (numberOfRefusal w) ns h
 
--- what holds both ways holds of a test
-pub on-test : {X : Type 0} (Q : X → Type 0) (b : Bool) {x y : X} → Q x → Q y → Q (cond b x y)
-on-test Q true h k = h
-on-test Q false h k = k
-
 -- ---- the words of a field
 
 -- a field that has no name
@@ -117,6 +113,9 @@ nameless field.OptionalIndex = true
 nameless field.Choice = true
 nameless field.ExternName = false
 nameless field.Reference = true
+nameless field.Argument = true
+nameless field.CoreSortIndex = true
+nameless field.SortIndex = true
 
 -- where there are names, RANGE and TEXT come
 abbrev pub Names : (Refusal → Type 0) → Bool → Type 0
@@ -189,6 +188,9 @@ module _ (P : Refusal → Type 0) (tag : P refusal.Tag) where
       then-why (named pool ws 0) _ a
       (then-why (optionalName pool ws 2) _ (b 2) (then-why (optionalName pool ws 5) (optionalName pool ws 8) (b 5) (b 8)))
   flaw-why pool field.Reference ws h = reference-why ws
+  flaw-why pool field.Argument ws h = tt
+  flaw-why pool field.CoreSortIndex ws h = below-why 5 ws 0
+  flaw-why pool field.SortIndex ws h = below-why 6 ws 0
 
   judge-why : (pool : List ℕ) (f : Field) (ws : List ℕ) → Allowed P f → Ends P (judge pool f ws)
   unfolding judge
@@ -267,6 +269,18 @@ pub record Measures (P : Refusal → Type 0) (s : Shape) (row : List ℕ) (start
   pub tag : P refusal.Tag
   pub names : Each (Allowed P) (plan s)
   pub big : (m : ℕ) → Sized s row start pool m → 4294967295 < m → P refusal.TooBig
+
+-- a row of any shape, whose groups may have no words
+pub any-shape : (P : Refusal → Type 0) → P refusal.Limit → P refusal.Row → P refusal.Tag → P refusal.Range → P refusal.Text → P refusal.TooBig
+    → (s : Shape) (row : List ℕ) (start : ℕ) (pool : List ℕ) → Measures P s row start pool
+any-shape P limit empty tag range text big s row start pool =
+    record {
+      limit = λ b e k. limit;
+      width = λ e. empty;
+      tag = tag;
+      names = each-any (Allowed P) (all-allowed P range text) (plan s);
+      big = λ m k h. big;
+    }
 
 pub measured-why : (P : Refusal → Type 0) (s : Shape) (row : List ℕ) (start : ℕ) (pool : List ℕ) → Measures P s row start pool
     → Tells P (measured s row start pool)

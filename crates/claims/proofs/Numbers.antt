@@ -1,5 +1,5 @@
 -- The numbers of each call: no other can come, and each of them does.
-use Prim.Native.Nat.{ℕ, _+_}
+use Prim.Native.Nat.{ℕ}
 use native.Mathlib.Omega.{arith}
 use mathlib.Core.Path.{_≡_, refl, ap}
 use mathlib.Core.Logic.{_⊎_, inl, inr}
@@ -16,10 +16,9 @@ use Rattle.fields.specs.declared.Found.{Found}
 use Rattle.fields.specs.declared.Found.the-variants as found
 use Rattle.fields.specs.declared.Read.{Read}
 use Rattle.fields.specs.declared.Read.the-variants as read
-use Rattle.fields.specs.declared.Refusal.{Refusal}
 use Rattle.fields.specs.declared.Refusal.the-variants as refusal
 use Rattle.fields.specs.declared.Shape.{Shape}
-use Rattle.writing.specs.Binary.{name, primvaltype, valtype, optional, resultlist, functype, flag, representation, destructor, canonopt, slotAt, slotsAt, slots, externname, typebound, externdesc, bytes}
+use Rattle.writing.specs.Binary.{name, primvaltype, valtype, optional, resultlist, functype, flag, representation, destructor, canonopt, slotAt, slotsAt, slots, externname, slotInside, externInside, externPart, typebound, externdesc, argument, coresortidx, sortidx, bytes}
 use Rattle.fields.specs.Words.{indexed, wide}
 use Rattle.reading.specs.Fill.{primitive, fillValue, fillName, fill}
 use Rattle.writing.specs.Judge.{value, optionalValue, named, optionalName, reference, flaw, judge}
@@ -39,6 +38,7 @@ use Rattle.items.specs.ReadImport.{readImport}
 use Rattle.imports.specs.Write as imports
 use Rattle.imports.specs.Write.{measuredImport, writeImport}
 use Rattle.canonicals.specs.Write.{canonicalBytes, measuredCanonical, writeCanonical}
+use Rattle.instances.specs.Write.{measuredCoreInstance, writeCoreInstance, measuredInstance, writeInstance}
 use Rattle.sections.specs.declared.Section.{Section}
 use Rattle.sections.specs.Finish.{framing, finishing}
 use Rattle.sections.specs.Section.{knownFamily, holdsAt, sounds, measuredFamily, familyBytes, writeFamily}
@@ -54,9 +54,9 @@ use Rattle.cabi.specs.State.{given, numbersOf, step}
 use Rattle.claims.specs.Kept.{numberOfRead}
 use Rattle.claims.specs.Numbers.{Among, Met, Exactly, RefusesBy}
 use Rattle.claims.proofs.BigShape.{bytesShape, big-measured, big-row}
-use Rattle.claims.proofs.NumberLaws.{Listed, Tells, told, read-told, refusal-told, each-any, Allowed, all-allowed, Basic, Measures, measured-why, measured-row-why, stored-why, nameless-plan, never-big}
+use Rattle.claims.proofs.NumberLaws.{Listed, any-shape, Tells, told, read-told, refusal-told, each-any, Allowed, all-allowed, Basic, Measures, measured-why, measured-row-why, stored-why, nameless-plan, never-big}
 use Rattle.claims.proofs.ReadNumbers.{item-why, refusal-why}
-use Rattle.claims.proofs.StepNumbers.{Named, type-why, import-why, canonical-why, write-type-why, write-import-why, write-canonical-why, write-family-why, row-why, open-why, async-why, params-why, result-why, abandon-why, finish-why, sheet-why}
+use Rattle.claims.proofs.StepNumbers.{Named, canonical-why, family-why, write-canonical-why, write-family-why, row-why, open-why, async-why, params-why, result-why, abandon-why, finish-why, sheet-why}
 use Rattle.claims.proofs.NumberInputs as input
 use Rattle.claims.proofs.NumberInputs.{each, meets, zeros, zeros-length, too-big}
 use Rattle.numbers.proofs.Impossible.{impossible}
@@ -87,17 +87,6 @@ take-numbers taken.Cut = inr (inl refl)
 take-numbers taken.Bad = inr (inr (inl refl))
 
 -- ---- fields: a shape whose groups have no words may make a row TOO_BIG
-
-any-shape : (P : Refusal → Type 0) → P refusal.Limit → P refusal.Row → P refusal.Tag → P refusal.Range → P refusal.Text → P refusal.TooBig
-    → (s : Shape) (row : List ℕ) (start : ℕ) (pool : List ℕ) → Measures P s row start pool
-any-shape P limit empty tag range text big s row start pool =
-    record {
-      limit = λ b e k. limit;
-      width = λ e. empty;
-      tag = tag;
-      names = each-any (Allowed P) (all-allowed P range text) (plan s);
-      big = λ m k h. big;
-    }
 
 module _ (row pool : List ℕ) where
   shape-why : (ns : List ℕ) (s : Shape) (start : ℕ) → Tells (Listed (1 ∷ 3 ∷ 4 ∷ 5 ∷ 6 ∷ 7 ∷ ns)) (measured s row start pool)
@@ -219,39 +208,58 @@ unfolding numberOfRefusal
 names ns = record { basic = basic (5 ∷ 6 ∷ ns); range = refl; text = refl }
 
 module _ (row pool : List ℕ) where
+  family-numbers : (family : ℕ) → Among (numberOf (measuredFamily family row pool)) (0 ∷ 1 ∷ 2 ∷ 3 ∷ 4 ∷ 5 ∷ 6 ∷ [])
+  family-numbers family =
+      let ns : List ℕ = 1 ∷ 2 ∷ 3 ∷ 4 ∷ 5 ∷ 6 ∷ [] in
+      told ns (measuredFamily family row pool) (family-why (Listed ns) (names []) family row pool)
+
   type-numbers : Among (numberOf (measuredType row pool)) (0 ∷ 1 ∷ 2 ∷ 3 ∷ 4 ∷ 5 ∷ 6 ∷ [])
-  type-numbers = told (1 ∷ 2 ∷ 3 ∷ 4 ∷ 5 ∷ 6 ∷ []) (measuredType row pool) (type-why (Listed (1 ∷ 2 ∷ 3 ∷ 4 ∷ 5 ∷ 6 ∷ [])) (names []) row pool)
+  unfolding measuredFamily
+  type-numbers = family-numbers 7
 
   import-numbers : Among (numberOf (measuredImport row pool)) (0 ∷ 1 ∷ 2 ∷ 3 ∷ 4 ∷ 5 ∷ 6 ∷ [])
-  import-numbers = told (1 ∷ 2 ∷ 3 ∷ 4 ∷ 5 ∷ 6 ∷ []) (measuredImport row pool) (import-why (Listed (1 ∷ 2 ∷ 3 ∷ 4 ∷ 5 ∷ 6 ∷ [])) (names []) row pool)
+  unfolding measuredFamily
+  import-numbers = family-numbers 10
+
+  core-instance-numbers : Among (numberOf (measuredCoreInstance row pool)) (0 ∷ 1 ∷ 2 ∷ 3 ∷ 4 ∷ 5 ∷ 6 ∷ [])
+  unfolding measuredFamily
+  core-instance-numbers = family-numbers 2
+
+  instance-numbers : Among (numberOf (measuredInstance row pool)) (0 ∷ 1 ∷ 2 ∷ 3 ∷ 4 ∷ 5 ∷ 6 ∷ [])
+  unfolding measuredFamily
+  instance-numbers = family-numbers 5
 
   canonical-numbers : Among (numberOf (measuredCanonical row pool)) (0 ∷ 1 ∷ 2 ∷ 3 ∷ 4 ∷ [])
   canonical-numbers = told (1 ∷ 2 ∷ 3 ∷ 4 ∷ []) (measuredCanonical row pool) (canonical-why (Listed (1 ∷ 2 ∷ 3 ∷ 4 ∷ [])) (basic []) row pool)
 
   module _ (out : List ℕ) (at : ℕ) where
-    write-type-numbers : Among (numberOf (writeType row pool out at .answer)) (0 ∷ 1 ∷ 2 ∷ 3 ∷ 4 ∷ 5 ∷ 6 ∷ 8 ∷ [])
+    write-family-numbers : (family : ℕ) → Among (numberOf (writeFamily family row pool out at .answer)) (0 ∷ 1 ∷ 2 ∷ 3 ∷ 4 ∷ 5 ∷ 6 ∷ 8 ∷ [])
     unfolding numberOfRefusal
-    write-type-numbers =
+    write-family-numbers family =
         let ns : List ℕ = 1 ∷ 2 ∷ 3 ∷ 4 ∷ 5 ∷ 6 ∷ 8 ∷ [] in
-        told ns (writeType row pool out at .answer) (write-type-why (Listed ns) refl (names (8 ∷ [])) row pool out at)
+        told ns (writeFamily family row pool out at .answer) (write-family-why (Listed ns) refl (names (8 ∷ [])) family row pool out at)
+
+    write-type-numbers : Among (numberOf (writeType row pool out at .answer)) (0 ∷ 1 ∷ 2 ∷ 3 ∷ 4 ∷ 5 ∷ 6 ∷ 8 ∷ [])
+    unfolding writeFamily
+    write-type-numbers = write-family-numbers 7
 
     write-import-numbers : Among (numberOf (writeImport row pool out at .answer)) (0 ∷ 1 ∷ 2 ∷ 3 ∷ 4 ∷ 5 ∷ 6 ∷ 8 ∷ [])
-    unfolding numberOfRefusal
-    write-import-numbers =
-        let ns : List ℕ = 1 ∷ 2 ∷ 3 ∷ 4 ∷ 5 ∷ 6 ∷ 8 ∷ [] in
-        told ns (writeImport row pool out at .answer) (write-import-why (Listed ns) refl (names (8 ∷ [])) row pool out at)
+    unfolding writeFamily
+    write-import-numbers = write-family-numbers 10
+
+    write-core-instance-numbers : Among (numberOf (writeCoreInstance row pool out at .answer)) (0 ∷ 1 ∷ 2 ∷ 3 ∷ 4 ∷ 5 ∷ 6 ∷ 8 ∷ [])
+    unfolding writeFamily
+    write-core-instance-numbers = write-family-numbers 2
+
+    write-instance-numbers : Among (numberOf (writeInstance row pool out at .answer)) (0 ∷ 1 ∷ 2 ∷ 3 ∷ 4 ∷ 5 ∷ 6 ∷ 8 ∷ [])
+    unfolding writeFamily
+    write-instance-numbers = write-family-numbers 5
 
     write-canonical-numbers : Among (numberOf (writeCanonical row pool out at .answer)) (0 ∷ 1 ∷ 2 ∷ 3 ∷ 4 ∷ 8 ∷ [])
     unfolding numberOfRefusal
     write-canonical-numbers =
         let ns : List ℕ = 1 ∷ 2 ∷ 3 ∷ 4 ∷ 8 ∷ [] in
         told ns (writeCanonical row pool out at .answer) (write-canonical-why (Listed ns) refl (basic (8 ∷ [])) row pool out at)
-
-    write-family-numbers : (family : ℕ) → Among (numberOf (writeFamily family row pool out at .answer)) (0 ∷ 1 ∷ 2 ∷ 3 ∷ 4 ∷ 5 ∷ 6 ∷ 8 ∷ [])
-    unfolding numberOfRefusal
-    write-family-numbers family =
-        let ns : List ℕ = 1 ∷ 2 ∷ 3 ∷ 4 ∷ 5 ∷ 6 ∷ 8 ∷ [] in
-        told ns (writeFamily family row pool out at .answer) (write-family-why (Listed ns) refl (names (8 ∷ [])) family row pool out at)
 
 -- ---- steps
 
@@ -333,7 +341,7 @@ long =
     (too-big 4294967295 (omega arith) (zeros 4294967295) input.room (zeros-length 4294967295))
 
 pub refuses-by : RefusesBy
-unfolding store partOf bytesOf takeIn within32 numberIn more numbers.numberOf numbers.numberOfTaken text.text text.rest text.step name primvaltype valtype optional resultlist functype flag representation destructor indexed canonopt slotAt slotsAt slots externname typebound externdesc bytes wide value optionalValue named optionalName reference flaw judge measuredRow rowBytes writeRow repeated seq widths rowWidth shapeIn view walk outs numberOfRefusal numberOf sized measured stored writeShape measuredType writeType measuredImport writeImport measuredCanonical canonicalBytes writeCanonical kindIn kindOf leadGrade readType readImport readItem scannedItem roomed scanIndex scanName scanPrimitive scanValue headScan firstScan secondScan scanExtern scanReference slotScan endScan scan primitive fillValue fillName fill knownFamily holdsAt sounds measuredFamily familyBytes writeFamily rowing opening asyncing paraming resulting abandoning framing finishing number words rowsFrom frame.framed familyOf tries joined finished sheeted given
+unfolding store partOf bytesOf takeIn within32 numberIn more numbers.numberOf numbers.numberOfTaken text.text text.rest text.step name primvaltype valtype optional resultlist functype flag representation destructor indexed canonopt slotAt slotsAt slots externname slotInside externInside externPart typebound externdesc argument coresortidx sortidx bytes wide value optionalValue named optionalName reference flaw judge measuredRow rowBytes writeRow repeated seq widths rowWidth shapeIn view walk outs numberOfRefusal numberOf sized measured stored writeShape measuredType writeType measuredImport writeImport measuredCanonical canonicalBytes writeCanonical measuredCoreInstance writeCoreInstance measuredInstance writeInstance kindIn kindOf leadGrade readType readImport readItem scannedItem roomed scanIndex scanName scanPrimitive scanValue headScan firstScan secondScan scanExtern scanReference slotScan endScan scan primitive fillValue fillName fill knownFamily holdsAt sounds measuredFamily familyBytes writeFamily rowing opening asyncing paraming resulting abandoning framing finishing number words rowsFrom frame.framed familyOf tries joined finished sheeted given
 refuses-by =
     record {
       copy = exactly (λ x. store-numbers (x .0) (x .1) (x .2)) input.copies refl;
@@ -350,6 +358,7 @@ refuses-by =
       item-refusal = exactly (λ x. refusal-numbers (x .0) (x .1) (x .2) (x .3)) input.refusedItems refl;
       put-value = exactly (λ x. store-numbers (valtype (x .0) (x .1)) (x .2) (x .3)) input.values refl;
       put-name = exactly (λ x. store-numbers (unsigned (x .2) ++ partOf (x .0) (x .1) (x .2)) (x .3) (x .4)) input.names refl;
+      put-extern = exactly (λ x. store-numbers (externPart (x .0) (x .1)) (x .2) (x .3)) input.externs refl;
       measure-type = exactly (λ x. type-numbers (x .0) (x .1)) input.types (rw (zeros-length 16385));
       write-type = exactly (λ x. write-type-numbers (x .0) (x .1) (x .2) (x .3)) input.writtenTypes (rw (zeros-length 16385));
       read-type = exactly (λ x. read-type-numbers (x .0) (x .1) (x .2)) input.readTypes refl;
@@ -361,6 +370,10 @@ refuses-by =
       read-import = exactly (λ x. read-import-numbers (x .0) (x .1) (x .2)) input.readImports refl;
       measure-canonical = exactly (λ x. canonical-numbers (x .0) (x .1)) input.canonicals (rw (zeros-length 16385));
       write-canonical = exactly (λ x. write-canonical-numbers (x .0) (x .1) (x .2) (x .3)) input.writtenCanonicals (rw (zeros-length 16385));
+      measure-core-instance = exactly (λ x. core-instance-numbers (x .0) (x .1)) input.coreInstances (rw (zeros-length 16385));
+      write-core-instance = exactly (λ x. write-core-instance-numbers (x .0) (x .1) (x .2) (x .3)) input.writtenCoreInstances (rw (zeros-length 16385));
+      measure-instance = exactly (λ x. instance-numbers (x .0) (x .1)) input.instances (rw (zeros-length 16385));
+      write-instance = exactly (λ x. write-instance-numbers (x .0) (x .1) (x .2) (x .3)) input.writtenInstances (rw (zeros-length 16385));
       write-by = exactly (λ x. write-family-numbers (x .1) (x .2) (x .3) (x .4) (x .0)) input.byFamily (rw (zeros-length 16385));
       row = exactly (λ x. row-numbers (x .0) (x .1) (x .2) (x .3)) input.rowSteps (rw (zeros-length 16385));
       open-entry = exactly (λ x. open-numbers (x .0) (x .1)) input.openSteps refl;

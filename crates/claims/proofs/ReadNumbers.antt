@@ -18,9 +18,10 @@ use Rattle.fields.specs.declared.Refusal.the-variants as refusal
 use Rattle.fields.specs.Words.{indexed}
 use Rattle.fields.specs.Answers.{LeftRow}
 use Rattle.reading.specs.Read.{reader, scanned, filled, roomed, readFound, readItem, scannedFound, scannedItem, refusalOf}
-use Rattle.reading.specs.Scan.{byte, there, asked, past, numbered, scanIndex, named, scanName, scanPrimitive, scanValue, zeroAt, either, scanOptional, thenZero, scanResult, scanChoice, onward, stringAt, counted, countAt, slotScan, endScan, headScan, firstScan, secondScan, scanExtern, scanBound, scanModule, three, scanReference, scanEither, scanOptionalIndex, scan}
+use Rattle.reading.specs.Scan.{byte, there, asked, past, numbered, scanIndex, named, scanName, scanPrimitive, scanValue, zeroAt, either, scanOptional, thenZero, scanResult, scanChoice, onward, stringAt, counted, countAt, slotScan, endScan, headScan, firstScan, secondScan, scanExtern, scanBound, scanModule, three, scanReference, scanEither, scanOptionalIndex, scan, scanArgument, scanCoreSortIndex, scanSortIndex}
 use Rattle.fields.specs.Shape.{plan}
-use Rattle.claims.proofs.NumberLaws.{Ends, TellsRead, on-test, each-any, walk-why}
+use Rattle.claims.proofs.Families.{on-test}
+use Rattle.claims.proofs.NumberLaws.{Ends, TellsRead, each-any, walk-why}
 
 pub record Scans (P : Refusal → Type 0) : Type 0 where
   pub text : P refusal.Text
@@ -165,7 +166,7 @@ module _ (P : Refusal → Type 0) (h : Scans P) where
   byte-why g n a b bs = either-why bs a (Fine 1 1) b (asked g n 0 (Fine 1 1)) tt (asked-why g n 0 (Fine 1 1) tt)
 
   scan-why : (lead g : ℕ) (f : Field) (bs : List ℕ) → Why (scan lead g f bs)
-  unfolding scan scanOptionalIndex
+  unfolding scan scanOptionalIndex scanArgument scanCoreSortIndex scanSortIndex scanModule
   scan-why lead g field.Nothing bs = tt
   scan-why lead g (field.Fixed b) bs =
       on-test Why (leb (length bs) 0) (h .cut) (on-test Why (eqb (byte bs 0) b) (asked-why g lead 0 (Fine 1 0) tt) (h .code))
@@ -184,6 +185,12 @@ module _ (P : Refusal → Type 0) (h : Scans P) where
   scan-why lead g field.Choice bs = choice-why bs
   scan-why lead g field.ExternName bs = extern-why g bs
   scan-why lead g field.Reference bs = reference-why g bs
+  scan-why lead g field.Argument bs = on-test Why (leb (length bs) 0) (h .cut) (on-test Why (eqb (byte bs 0) 0x12) (behind-why 1 1 bs) (h .code))
+  scan-why lead g field.CoreSortIndex bs = on-test Why (leb (length bs) 0) (h .cut) (on-test Why (ltb (byte bs 0) 5) (behind-why 1 2 bs) (h .code))
+  scan-why lead g field.SortIndex bs =
+      on-test Why (leb (length bs) 0) (h .cut)
+      (on-test Why (eqb (byte bs 0) 0) (on-test Why (leb (length bs) 1) (h .cut) (on-test Why (eqb (byte bs 1) 0x11) (behind-why 2 2 bs) (h .code)))
+      (on-test Why (ltb (byte bs 0) 6) (behind-why 1 2 bs) (h .code)))
 
   module _ (limit : P refusal.Limit) (room : P refusal.Room) where
     abbrev Says : LeftRow → Type 0

@@ -18,24 +18,26 @@ use Rattle.fields.specs.declared.Refusal.{Refusal}
 use Rattle.fields.specs.declared.Refusal.the-variants as refusal
 use Rattle.fields.specs.declared.Shape.{Shape}
 use Rattle.fields.specs.Words.{word, wide}
-use Rattle.writing.specs.Row.{measuredRow, rowBytes, writeRow}
+use Rattle.writing.specs.Row.{measuredRow}
 use Rattle.fields.specs.Shape.{plan, widths, rowWidth}
-use Rattle.fields.specs.Table.{shapeIn}
+use Rattle.fields.specs.Table.{Line, shapeIn}
 use Rattle.fields.specs.Answers.{Left}
 use Rattle.writing.specs.Write.{measured, written, stored, writeShape}
 use Rattle.writing.proofs.TableRows.{every, of-every}
 use Rattle.types.specs.Table as types
-use Rattle.types.specs.Write.{measuredType, writeType}
+use Rattle.types.specs.Write.{measuredType}
 use Rattle.imports.specs.Table as imports
-use Rattle.imports.specs.Write.{measuredImport, writeImport}
+use Rattle.imports.specs.Write.{measuredImport}
 use Rattle.canonicals.specs.Table as canonicals
 use Rattle.canonicals.specs.Table.{liftShape}
 use Rattle.canonicals.specs.Write.{canonicalBytes, measuredCanonical, writeCanonical}
+use Rattle.instances.specs.Table as instances
+use Rattle.instances.specs.Write.{measuredCoreInstance, measuredInstance}
 use Rattle.sections.specs.declared.Phase.{Phase}
 use Rattle.sections.specs.declared.Phase.the-variants.{Closed, Opened, Asynced, Parametered}
 use Rattle.sections.specs.declared.Section.{Section}
 use Rattle.sections.specs.Finish.{framed, framing, finishing}
-use Rattle.sections.specs.Section.{opened, sounds, measuredFamily, familyBytes, writeFamily}
+use Rattle.sections.specs.Section.{Entries, Types, Canonicals, Imports, CoreInstances, Instances, None, entriesOf, measuredBy, opened, sounds, measuredFamily, familyBytes, writeFamily}
 use Rattle.sections.specs.Steps.{Turn, wrote, taken, asyncIn, paramsIn, resultIn, abandonIn, rowing, opening, asyncing, paraming, resulting, abandoning}
 use Rattle.sections.proofs.FamilyLaws.{family-stored}
 use Rattle.sections.proofs.TurnLaws.{asyncShape, paramsShape, resultShape}
@@ -43,7 +45,8 @@ use Rattle.sheets.specs.Frame as frame
 use Rattle.sheets.specs.Frame.{Rows, Are, Broken, poolOf}
 use Rattle.sheets.specs.Sheet as sheet
 use Rattle.sheets.specs.Sheet.{familyOf, tried, tries, joined, finished, ofRows, sheeted}
-use Rattle.claims.proofs.NumberLaws.{Ends, Tells, on-test, Allowed, Each, each-any, all-allowed, Measures, measured-why, never-big, namelessShape, nameless-plan, measured-row-why, stored-why, Basic, shape-why, table-why}
+use Rattle.claims.proofs.Families.{on-test}
+use Rattle.claims.proofs.NumberLaws.{Ends, Tells, Allowed, each-any, all-allowed, Measures, measured-why, never-big, worded, namelessShape, nameless-plan, measured-row-why, stored-why, Basic, shape-why, table-why}
 use Rattle.numbers.proofs.Impossible.{impossible}
 
 -- ---- rows
@@ -55,17 +58,6 @@ pub record Named (P : Refusal → Type 0) : Type 0 where
   pub text : P refusal.Text
 
 module _ (P : Refusal → Type 0) where
-  any-plan : Named P → (s : Shape) → Each (Allowed P) (plan s)
-  any-plan h s = each-any (Allowed P) (all-allowed P (h .range) (h .text)) (plan s)
-
-  pub type-why : Named P → (row pool : List ℕ) → Tells P (measuredType row pool)
-  unfolding measuredType every widths wide
-  type-why h row pool = table-why P (h .basic) types.table refl (word row 0) (λ s e. any-plan h s) row pool
-
-  pub import-why : Named P → (row pool : List ℕ) → Tells P (measuredImport row pool)
-  unfolding measuredImport every widths wide
-  import-why h row pool = table-why P (h .basic) imports.table refl (word row 0) (λ s e. any-plan h s) row pool
-
   -- no canonical has a name
   pub canonical-why : Basic P → (row pool : List ℕ) → Tells P (measuredCanonical row pool)
   unfolding measuredCanonical every widths wide
@@ -84,26 +76,26 @@ module _ (P : Refusal → Type 0) where
           table-why P h canonicals.table refl (word row 0)
           (λ s e. nameless-plan P s (of-every namelessShape canonicals.table refl (word row 0) s e)) row pool
 
+  -- the other families have names
   pub family-why : Named P → (family : ℕ) (row pool : List ℕ) → Tells P (measuredFamily family row pool)
-  unfolding measuredFamily
-  family-why h family row pool =
-      on-test (Tells P) (eqb family 7) (type-why h row pool)
-      (on-test (Tells P) (eqb family 8) (canonical-why (h .basic) row pool)
-      (on-test (Tells P) (eqb family 10) (import-why h row pool) (h .basic .limit)))
+  unfolding measuredFamily measuredType measuredImport measuredCoreInstance measuredInstance every widths wide
+  family-why h family row pool = go (entriesOf family)
+    where
+      named : (ls : List Line) → every worded ls ≡ true → Tells P (measuredRow (shapeIn ls (word row 0)) row pool)
+      named ls words =
+          table-why P (h .basic) ls words (word row 0) (λ s e. each-any (Allowed P) (all-allowed P (h .range) (h .text)) (plan s)) row pool
+
+      go : (x : Entries) → Tells P (measuredBy x row pool)
+      go Types = named types.table refl
+      go Canonicals = canonical-why (h .basic) row pool
+      go Imports = named imports.table refl
+      go CoreInstances = named instances.coreTable refl
+      go Instances = named instances.table refl
+      go None = h .basic .limit
 
   -- ---- writing them
 
   module _ (room : P refusal.Room) where
-    pub write-type-why : Named P → (row pool out : List ℕ) (at : ℕ) → Tells P (writeType row pool out at .answer)
-    unfolding writeType writeRow measuredType
-    write-type-why h row pool out at =
-        stored-why P room (measuredType row pool) (rowBytes (shapeIn types.table (word row 0)) pool row) out at (type-why h row pool)
-
-    pub write-import-why : Named P → (row pool out : List ℕ) (at : ℕ) → Tells P (writeImport row pool out at .answer)
-    unfolding writeImport writeRow measuredImport
-    write-import-why h row pool out at =
-        stored-why P room (measuredImport row pool) (rowBytes (shapeIn imports.table (word row 0)) pool row) out at (import-why h row pool)
-
     pub write-canonical-why : Basic P → (row pool out : List ℕ) (at : ℕ) → Tells P (writeCanonical row pool out at .answer)
     unfolding writeCanonical
     write-canonical-why h row pool out at =

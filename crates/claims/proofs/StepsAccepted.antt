@@ -11,7 +11,7 @@ use lib.ListN.{length, drop, length-append}
 use lib.Seq.{sets}
 use Rattle.numbers.specs.Leb.{unsigned}
 use Rattle.fields.specs.declared.Answer.{Answer}
-use Rattle.fields.specs.declared.Answer.the-variants.{Size, Refused}
+use Rattle.fields.specs.declared.Answer.the-variants.{Size}
 use Rattle.fields.specs.declared.Field.{Field}
 use Rattle.fields.specs.declared.Field.the-variants as field
 use Rattle.fields.specs.declared.Flaw.{Flaw}
@@ -39,11 +39,12 @@ use Rattle.writing.proofs.WholeLaws.{sized-accepted, never-too-big}
 use Rattle.types.specs.Write.{measuredType}
 use Rattle.imports.specs.Write.{measuredImport}
 use Rattle.canonicals.specs.Write.{measuredCanonical}
+use Rattle.instances.specs.Write.{measuredCoreInstance, measuredInstance}
 use Rattle.sections.specs.declared.Phase.{Phase}
 use Rattle.sections.specs.declared.Phase.the-variants.{Closed, Opened, Asynced, Parametered}
 use Rattle.sections.specs.declared.Section.{Section}
 use Rattle.sections.specs.Runs.{Params, Result, Accepted, AllAccepted}
-use Rattle.sections.specs.Section.{familyBytes, measuredFamily, opened, sounds, writeFamily}
+use Rattle.sections.specs.Section.{Types, Canonicals, Imports, CoreInstances, Instances, None, measuredBy, familyBytes, measuredFamily, opened, sounds, writeFamily}
 use Rattle.sections.specs.Steps.{Turn, refuse, wrote, asyncIn, paramsFrom, paramsIn, resultIn, rowing, opening, asyncing, paraming, resulting}
 use Rattle.sections.proofs.FamilyLaws.{family-stored}
 use Rattle.sections.proofs.TurnLaws.{Grows, accepted-size, accepted-grows, grows-then, asyncShape, paramsShape, resultShape, row-turns, open-turns, async-turns, params-turns, result-turns}
@@ -334,20 +335,21 @@ module _ (s : Section) (body : List ℕ) (a : ℕ) (words pool : List ℕ) (tag 
 
   -- only the types have a kind 15
   row-types : (family size : ℕ) → measuredFamily family row pool ≡ Size size → (family ≡ 7) × (measuredRow (Is functionShape) row pool ≡ Size size)
-  unfolding measuredFamily measuredType measuredCanonical measuredImport shapeIn
-  row-types family size e = go (eqb family 7) refl (eqb family 8) (eqb family 10) e
+  unfolding measuredFamily measuredType measuredCanonical measuredImport measuredCoreInstance measuredInstance shapeIn
+  row-types family size e = go (eqb family 7) refl (eqb family 8) (eqb family 10) (eqb family 2) (eqb family 5) e
     where
       unknown : measuredRow Not row pool ≡ Size size → ⊥
       unknown e = let q = whole.accepted Not row pool size e .is in let z : _≡_ {A = ℕ} 0 1 = cc in omega arith
 
-      go : (b : Bool) → eqb family 7 ≡ b → (c d : Bool)
-          → cond b (measuredRow (Is functionShape) row pool)
-          (cond c (measuredRow Not row pool) (cond d (measuredRow Not row pool) (Refused refusal.Limit 0))) ≡ Size size
+      go : (b : Bool) → eqb family 7 ≡ b → (c d f g : Bool)
+          → measuredBy (cond b Types (cond c Canonicals (cond d Imports (cond f CoreInstances (cond g Instances None))))) row pool ≡ Size size
           → (family ≡ 7) × (measuredRow (Is functionShape) row pool ≡ Size size)
-      go true p c d e = (eqb-true _ _ p, e)
-      go false p true d e = absurd (unknown e)
-      go false p false true e = absurd (unknown e)
-      go false p false false e = impossible cc
+      go true p c d f g e = (eqb-true _ _ p, e)
+      go false p true d f g e = absurd (unknown e)
+      go false p false true f g e = absurd (unknown e)
+      go false p false false true g e = absurd (unknown e)
+      go false p false false false true e = absurd (unknown e)
+      go false p false false false false e = impossible cc
 
   row-tests : Accepted (rowing s row pool body) → s .family ≡ 7 → Ready s body
   unfolding rowing

@@ -6,36 +6,17 @@ use mathlib.Core.Bool.{Bool, true, false, cond}
 use mathlib.Core.List.{List, [], _∷_}
 use borrow.Author.Tests.{le-ltb, le-leb}
 use lib.Dec.{eqb, ltb, leb}
-use lib.ListN.{length, drop}
+use lib.ListN.{length}
 use lib.Seq.{sets}
-use Rattle.numbers.specs.Text.{text}
 use Rattle.fields.specs.declared.Answer.{Answer}
 use Rattle.fields.specs.declared.Answer.the-variants.{Size, Refused}
-use Rattle.fields.specs.declared.Field.{Field}
 use Rattle.fields.specs.declared.Field.the-variants as field
-use Rattle.fields.specs.declared.Flaw.{Flaw}
-use Rattle.fields.specs.declared.Flaw.the-variants.{Right, Wrong}
-use Rattle.fields.specs.declared.Found.{Found}
-use Rattle.fields.specs.declared.Found.the-variants.{Is, Not}
-use Rattle.fields.specs.declared.Leaf.{Leaf}
-use Rattle.fields.specs.declared.Leaf.the-variants.{Fine, Bad}
 use Rattle.fields.specs.declared.Refusal.{Refusal}
 use Rattle.fields.specs.declared.Refusal.the-variants as refusal
 use Rattle.fields.specs.declared.Shape.{Shape}
-use Rattle.fields.specs.Words.{word, chars, indexed, wide}
-use Rattle.writing.specs.Binary.{bytes}
-use Rattle.writing.specs.Judge.{then, below, unused, value, optionalValue, named, optionalIndex, choice, optionalName, reference, flaw, unless, judge}
-use Rattle.writing.specs.Row.{measuredFound, measuredRow}
-use Rattle.fields.specs.inside.Run.{along}
-use Rattle.fields.specs.Shape.{rowWidth}
-use Rattle.fields.specs.Walk.{next}
 use Rattle.fields.specs.Answers.{Left, left}
-use Rattle.writing.specs.Write.{judged, written, sized, measured, stored, writeShape}
+use Rattle.writing.specs.Write.{written, measured, stored, writeShape}
 use Rattle.fields.specs.Answers as answers
-use Rattle.writing.proofs.PutLaws.{allFields, judged-along}
-use Rattle.types.specs.Write.{measuredType}
-use Rattle.imports.specs.Write.{measuredImport}
-use Rattle.canonicals.specs.Write.{measuredCanonical}
 use Rattle.sections.specs.declared.Phase.{Phase}
 use Rattle.sections.specs.declared.Phase.the-variants.{Closed, Opened, Asynced, Parametered}
 use Rattle.sections.specs.declared.Section.{Section}
@@ -44,6 +25,8 @@ use Rattle.sections.specs.Section.{familyBytes, measuredFamily, opened, holds, 
 use Rattle.sections.specs.Steps.{Turn, turned, refused, refuse, taken, wrote, asyncIn, paramsIn, resultIn, abandonIn, rowing, opening, asyncing, paraming, resulting, abandoning}
 use Rattle.sections.proofs.FamilyLaws.{family-stored}
 use Rattle.sections.proofs.TurnLaws.{asyncShape, paramsShape, resultShape}
+use Rattle.claims.proofs.Families.{on-family}
+use Rattle.claims.proofs.NumberLaws.{Tells, any-shape, measured-why, measured-row-why}
 use Rattle.numbers.proofs.Impossible.{impossible}
 
 -- ---- what is measured is never refused for room
@@ -65,120 +48,16 @@ Other refusal.Number = Unit {0}
 Other refusal.Newer = Unit {0}
 Other refusal.Sheet = Unit {0}
 
-abbrev FlawOther : Flaw → Type 0
-FlawOther Right = Unit {0}
-FlawOther (Wrong w j) = Other w
+measured-other : (shape : Shape) (row : List ℕ) (start : ℕ) (pool : List ℕ) → Tells Other (measured shape row start pool)
+measured-other shape row start pool = measured-why Other shape row start pool (any-shape Other tt tt tt tt tt tt shape row start pool)
 
-abbrev LeafOther : Leaf → Type 0
-LeafOther (Fine a m) = Unit {0}
-LeafOther (Bad w j) = Other w
-
-abbrev AnswerOther : Answer → Type 0
-AnswerOther (Size n) = Unit {0}
-AnswerOther (Refused w n) = Other w
-
--- what holds both ways holds of a test
-both : {X : Type 0} (P : X → Type 0) (b : Bool) {x y : X} → P x → P y → P (cond b x y)
-both P true h k = h
-both P false h k = k
-
-then-other : (x y : Flaw) → FlawOther x → FlawOther y → FlawOther (then x y)
-then-other Right y h k = k
-then-other (Wrong w j) y h k = h
-
-module _ (ws : List ℕ) where
-  below-other : (n i : ℕ) → FlawOther (below n ws i)
-  below-other n i = both FlawOther (ltb (word ws i) n) tt tt
-
-  unused-other : (i : ℕ) → FlawOther (unused ws i)
-  unused-other i = both FlawOther (eqb (word ws i) 0) tt tt
-
-  value-other : (i : ℕ) → FlawOther (value ws i)
-  unfolding value
-  value-other i = both FlawOther (eqb (word ws i) 0) (below-other 14 (i + 1)) (both FlawOther (eqb (word ws i) 1) tt tt)
-
-  optional-other : (i : ℕ) → FlawOther (optionalValue ws i)
-  unfolding optionalValue
-  optional-other i = both FlawOther (eqb (word ws i) 2) (unused-other (i + 1)) (value-other i)
-
-  named-other : (pool : List ℕ) (i : ℕ) → FlawOther (named pool ws i)
-  unfolding named
-  named-other pool i =
-      both FlawOther (leb (word ws i + word ws (i + 1)) (length pool))
-      (both FlawOther (text (chars pool (word ws i) (word ws (i + 1)))) tt tt) tt
-
-  slot-other : (pool : List ℕ) (i : ℕ) → FlawOther (optionalName pool ws i)
-  unfolding optionalName
-  slot-other pool i =
-      both FlawOther (eqb (word ws i) 0) (then-other (unused ws (i + 1)) (unused ws (i + 2)) (unused-other (i + 1)) (unused-other (i + 2)))
-      (both FlawOther (eqb (word ws i) 1) (named-other pool (i + 1)) tt)
-
-  flaw-other : (pool : List ℕ) (f : Field) → FlawOther (flaw pool f ws)
-  unfolding flaw optionalIndex choice reference
-  flaw-other pool field.Nothing = tt
-  flaw-other pool (field.Fixed b) = tt
-  flaw-other pool field.Primitive = below-other 14 0
-  flaw-other pool field.Value = value-other 0
-  flaw-other pool field.Optional = optional-other 0
-  flaw-other pool field.OptionalThenZero = optional-other 0
-  flaw-other pool field.Result = optional-other 0
-  flaw-other pool field.Name = named-other pool 0
-  flaw-other pool field.Index = tt
-  flaw-other pool field.Async = below-other 2 0
-  flaw-other pool field.Flag = below-other 2 0
-  flaw-other pool field.Rep = below-other 2 0
-  flaw-other pool field.OptionalIndex = both FlawOther (eqb (word ws 0) 0) (unused-other 1) (both FlawOther (eqb (word ws 0) 1) tt tt)
-  flaw-other pool field.Choice = both FlawOther (ltb (word ws 0) 10) (both FlawOther (indexed (word ws 0)) tt (unused-other 1)) tt
-  flaw-other pool field.ExternName =
-      then-other (named pool ws 0) (then (optionalName pool ws 2) (then (optionalName pool ws 5) (optionalName pool ws 8))) (named-other pool 0)
-      (then-other (optionalName pool ws 2) (then (optionalName pool ws 5) (optionalName pool ws 8)) (slot-other pool 2)
-      (then-other (optionalName pool ws 5) (optionalName pool ws 8) (slot-other pool 5) (slot-other pool 8)))
-  flaw-other pool field.Reference =
-      both FlawOther (eqb (word ws 0) 2) (value-other 1)
-      (both FlawOther (eqb (word ws 0) 3)
-      (both FlawOther (eqb (word ws 1) 0) tt (both FlawOther (eqb (word ws 1) 1) (unused-other 2) tt))
-      (both FlawOther (ltb (word ws 0) 6) (unused-other 2) tt))
-
-along-other : (pool : List ℕ) (fs : List Field) (ws : List ℕ) (at made : ℕ) → LeafOther (along (judge pool) fs ws at made)
-unfolding along judge
-along-other pool [] ws at made = tt
-along-other pool (f ∷ fs) ws at made =
-    go (flaw pool f ws) (flaw-other ws pool f) (along-other pool fs (drop (wide f) ws) (at + wide f) (made + length (bytes pool f ws)))
-  where
-    go : (x : Flaw) → FlawOther x → LeafOther (along (judge pool) fs (drop (wide f) ws) (at + wide f) (made + length (bytes pool f ws)))
-        → LeafOther (next (unless x (Fine (wide f) (length (bytes pool f ws)))) (λ t m. along (judge pool) fs (drop t ws) (at + t) (made + m)) at)
-    go Right h ih = ih
-    go (Wrong w j) h ih = h
-
-measured-other : (shape : Shape) (row : List ℕ) (start : ℕ) (pool : List ℕ) → AnswerOther (measured shape row start pool)
-unfolding measured sized
-measured-other shape row start pool =
-    both AnswerOther (ltb 16384 (length row)) tt
-    (both AnswerOther (ltb 65536 (length pool)) tt
-    (both AnswerOther (eqb (rowWidth shape row start) (length row))
-    (go (judged shape pool row start)
-    (subst LeafOther (sym (judged-along shape pool row start)) (along-other pool (allFields shape row start) (drop start row) start 0)))
-    tt))
-  where
-    go : (l : Leaf) → LeafOther l → AnswerOther (sized l)
-    go (Fine a m) h = both AnswerOther (ltb 4294967295 m) tt tt
-    go (Bad w j) h = h
-
-row-other : (found : Found) (row pool : List ℕ) → AnswerOther (measuredRow found row pool)
-unfolding measuredRow
-row-other found row pool =
-    both AnswerOther (ltb 16384 (length row)) tt
-    (both AnswerOther (ltb 65536 (length pool)) tt (both AnswerOther (eqb (length row) 0) tt (go found)))
-  where
-    go : (f : Found) → AnswerOther (measuredFound f row pool)
-    go (Is shape) = measured-other shape row 1 pool
-    go Not = tt
-
-family-other : (family : ℕ) (row pool : List ℕ) → AnswerOther (measuredFamily family row pool)
-unfolding measuredFamily measuredType measuredCanonical measuredImport
+family-other : (family : ℕ) (row pool : List ℕ) → Tells Other (measuredFamily family row pool)
 family-other family row pool =
-    both AnswerOther (eqb family 7) (row-other _ row pool)
-    (both AnswerOther (eqb family 8) (row-other _ row pool) (both AnswerOther (eqb family 10) (row-other _ row pool) tt))
+    on-family (Tells Other) family row pool
+    (λ found.
+    measured-row-why Other found row pool
+    (record { limit = tt; kind = λ e. tt; empty = tt; shape = λ s e. any-shape Other tt tt tt tt tt tt s row 1 pool }))
+    tt
 
 -- ---- a step as a function of the body
 
@@ -212,7 +91,7 @@ module _ (s : Section) (body : List ℕ) where
       go n true c e = impossible cc
 
   -- what is stored behind the used part
-  stored-again : (r : Answer) (bs : List ℕ) (count : ℕ) (phase : Phase) → AnswerOther r
+  stored-again : (r : Answer) (bs : List ℕ) (count : ℕ) (phase : Phase) → Tells Other r
       → Again s body (λ x. wrote s count phase (stored r bs x (s .used)))
   unfolding stored
   stored-again (Size m) bs count phase o = record { tries = λ n e. go n (leb (s .used + m) (length body)) e }
@@ -231,7 +110,7 @@ module _ (s : Section) (body : List ℕ) where
           )
   stored-again (Refused w m) bs count phase o = record { tries = λ n e. let z : w ≡ refusal.Room = cc in absurd (subst Other z o) }
 
-  wrote-again : (r : Answer) (bs : List ℕ) (l : List ℕ → Left) (count : ℕ) (phase : Phase) → AnswerOther r
+  wrote-again : (r : Answer) (bs : List ℕ) (l : List ℕ → Left) (count : ℕ) (phase : Phase) → Tells Other r
       → ((x : List ℕ) → l x ≡ stored r bs x (s .used)) → Again s body (λ x. wrote s count phase (l x))
   wrote-again r bs l count phase o e =
       subst (Again s body) (λ i x. wrote s count phase (sym (e x) i)) (stored-again r bs count phase o)

@@ -14,6 +14,8 @@ use Rattle.items.proofs.read_type as call-read-type
 use Rattle.imports.proofs.write as call-write-import
 use Rattle.items.proofs.read_import as call-read-import
 use Rattle.canonicals.proofs.write as call-write-canonical
+use Rattle.instances.proofs.write_core as call-write-core-instance
+use Rattle.instances.proofs.write as call-write-instance
 use Rattle.sections.specs.declared.Section.{Section}
 use Rattle.sections.proofs.Section.row as call-row
 use Rattle.sections.proofs.Section.open as call-open-entry
@@ -54,7 +56,7 @@ RefusesAll T number v = (κs : Lifetimes T) (a : Args (T .signature) κs) → nu
 abbrev pub Lent : Type 0
 Lent = RefT (List ℕ)
 
--- the writers of types, imports and canonicals have one form: the number, and the buffer that is left
+-- the writers of types, imports, canonicals and instances have one form: the number, and the buffer that is left
 abbrev pub Writer : Type 0
 Writer = Version call-write-type.ended
 
@@ -142,6 +144,8 @@ pub record BadVersions : Type 1 where
   pub write-type-met : Possible call-write-type.ended (λ M. call-write-type.clauses)
   pub write-import-met : Possible call-write-import.ended (λ M. call-write-import.clauses)
   pub write-canonical-met : Possible call-write-canonical.ended (λ M. call-write-canonical.clauses)
+  pub write-core-instance-met : Possible call-write-core-instance.ended (λ M. call-write-core-instance.clauses)
+  pub write-instance-met : Possible call-write-instance.ended (λ M. call-write-instance.clauses)
   pub read-type-met : Possible call-read-type.ended (λ M. call-read-type.clauses)
   pub read-import-met : Possible call-read-import.ended (λ M. call-read-import.clauses)
   pub row-met : Possible call-row.ended (λ M. call-row.clauses)
@@ -154,6 +158,10 @@ pub record BadVersions : Type 1 where
       (RefusesAll call-write-import.ended (λ κs r. numberOf r))
   pub write-canonical-refuses : Falls call-write-canonical.ended (λ M. call-write-canonical.clauses)
       (RefusesAll call-write-canonical.ended (λ κs r. numberOf r))
+  pub write-core-instance-refuses : Falls call-write-core-instance.ended (λ M. call-write-core-instance.clauses)
+      (RefusesAll call-write-core-instance.ended (λ κs r. numberOf r))
+  pub write-instance-refuses : Falls call-write-instance.ended (λ M. call-write-instance.clauses)
+      (RefusesAll call-write-instance.ended (λ κs r. numberOf r))
   pub read-type-refuses : Falls call-read-type.ended (λ M. call-read-type.clauses) (RefusesAll call-read-type.ended (λ κs r. numberOfRead r))
   pub read-import-refuses : Falls call-read-import.ended (λ M. call-read-import.clauses)
       (RefusesAll call-read-import.ended (λ κs r. numberOfRead r))
@@ -166,10 +174,14 @@ pub record BadVersions : Type 1 where
   pub write-type-same : Falls call-write-type.ended (λ M. call-write-type.clauses) SameBytes
   pub write-import-same : Falls call-write-import.ended (λ M. call-write-import.clauses) SameBytes
   pub write-canonical-same : Falls call-write-canonical.ended (λ M. call-write-canonical.clauses) SameBytes
+  pub write-core-instance-same : Falls call-write-core-instance.ended (λ M. call-write-core-instance.clauses) SameBytes
+  pub write-instance-same : Falls call-write-instance.ended (λ M. call-write-instance.clauses) SameBytes
   -- "one that writes nothing"
   pub write-type-nothing : Falls call-write-type.ended (λ M. call-write-type.clauses) WritesNothing
   pub write-import-nothing : Falls call-write-import.ended (λ M. call-write-import.clauses) WritesNothing
   pub write-canonical-nothing : Falls call-write-canonical.ended (λ M. call-write-canonical.clauses) WritesNothing
+  pub write-core-instance-nothing : Falls call-write-core-instance.ended (λ M. call-write-core-instance.clauses) WritesNothing
+  pub write-instance-nothing : Falls call-write-instance.ended (λ M. call-write-instance.clauses) WritesNothing
   -- "a section that adds the first row and then only says OK"
   pub row-only-says-ok : Falls call-row.ended (λ M. call-row.clauses) OnlySaysOk
   -- "a made-up count", which is told by "a row adds 1" and by the framed bytes: even once

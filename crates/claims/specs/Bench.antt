@@ -7,8 +7,8 @@ use Rattle.fields.specs.declared.Refusal.{Refusal}
 use Rattle.fields.specs.declared.Refusal.the-variants as refusal
 
 pub record Item : Type 0 where
-  -- whether the row is an import's, and not a type's
-  pub import : Bool
+  -- the family of its section
+  pub family : ℕ
   pub row : List ℕ
   pub pool : List ℕ
   pub bytes : List ℕ
@@ -26,10 +26,16 @@ pub data Line : Type 0 where
   Refused : Reading → Line
 
 abbrev type : List ℕ → List ℕ → List ℕ → Line
-type row pool bytes = Written (record { import = false; row = row; pool = pool; bytes = bytes })
+type row pool bytes = Written (record { family = 7; row = row; pool = pool; bytes = bytes })
 
 abbrev imports : List ℕ → List ℕ → List ℕ → Line
-imports row pool bytes = Written (record { import = true; row = row; pool = pool; bytes = bytes })
+imports row pool bytes = Written (record { family = 10; row = row; pool = pool; bytes = bytes })
+
+abbrev coreInstance : List ℕ → List ℕ → List ℕ → Line
+coreInstance row pool bytes = Written (record { family = 2; row = row; pool = pool; bytes = bytes })
+
+abbrev componentInstance : List ℕ → List ℕ → List ℕ → Line
+componentInstance row pool bytes = Written (record { family = 5; row = row; pool = pool; bytes = bytes })
 
 abbrev typeRead : ℕ → List ℕ → Refusal → ℕ → Line
 typeRead g bytes why place = Refused (record { import = false; grade = g; bytes = bytes; why = why; place = place })
@@ -66,6 +72,11 @@ bench =
     -- same, version suffix `1`
     ∷ imports (17 ∷ 0 ∷ 1 ∷ 0 ∷ 0 ∷ 0 ∷ 1 ∷ 1 ∷ 1 ∷ 0 ∷ 0 ∷ 0 ∷ 1 ∷ 0 ∷ 0 ∷ []) (0x66 ∷ 0x31 ∷ [])
     (0x02 ∷ 0x01 ∷ 0x66 ∷ 0x01 ∷ 0x01 ∷ 0x01 ∷ 0x31 ∷ 0x01 ∷ 0x00 ∷ [])
+    -- core instance of module 1, with `a` as instance 0
+    ∷ coreInstance (18 ∷ 1 ∷ 1 ∷ 0 ∷ 1 ∷ 0 ∷ []) (0x61 ∷ []) (0x00 ∷ 0x01 ∷ 0x01 ∷ 0x01 ∷ 0x61 ∷ 0x12 ∷ 0x00 ∷ [])
+    -- instance of the one item `a`, core module 0
+    ∷ componentInstance (21 ∷ 1 ∷ 0 ∷ 1 ∷ 0 ∷ 0 ∷ 0 ∷ 0 ∷ 0 ∷ 0 ∷ 0 ∷ 0 ∷ 0 ∷ 0 ∷ 0 ∷ []) (0x61 ∷ [])
+    (0x01 ∷ 0x01 ∷ 0x00 ∷ 0x01 ∷ 0x61 ∷ 0x00 ∷ 0x11 ∷ 0x00 ∷ [])
     -- record x error-context
     ∷ type (1 ∷ 1 ∷ 0 ∷ 1 ∷ 0 ∷ 13 ∷ []) (0x78 ∷ []) (0x72 ∷ 0x01 ∷ 0x01 ∷ 0x78 ∷ 0x64 ∷ [])
     -- the same, read at grade 1

@@ -23,6 +23,7 @@ use Rattle.writing.specs.Agree.{Agrees, All}
 use Rattle.types.specs.Table as typeTable
 use Rattle.imports.specs.Table as importTable
 use Rattle.canonicals.specs.Table as canonicalTable
+use Rattle.instances.specs.Table as instanceTable
 
 -- each of the rows is valid
 abbrev pub AllValid : ℕ → List Entry → Type 0
@@ -45,6 +46,7 @@ pub record Made (es : List Entry) (body out : List ℕ) (l : sheet.Left) : Type 
 pub record Demand2 : Type 0 where
   -- in each table a kind's shape writes what the production beside it says
   pub tables-agree : All Agrees typeTable.table × All Agrees importTable.table × All Agrees canonicalTable.table
+      × All Agrees instanceTable.coreTable × All Agrees instanceTable.table
   -- a row is valid, over a body with room, exactly when measuring gives a size that fits
   pub valid-measured : (family : ℕ) → Family family → (row pool body : List ℕ)
       → Takes family row pool body ↔ ((size : ℕ) × (measuredFamily family row pool ≡ Size size) × (size ≤ length body))

@@ -14,7 +14,7 @@ use Rattle.fields.specs.declared.Answer.{Answer}
 use Rattle.fields.specs.declared.Found.{Found}
 use Rattle.fields.specs.declared.Read.{Read}
 use Rattle.fields.specs.declared.Read.the-variants as read
-use Rattle.writing.specs.Binary.{valtype}
+use Rattle.writing.specs.Binary.{valtype, externPart}
 use Rattle.fields.specs.Answers.{LeftRow, numberOfRefusal, numberOf, valueOf, Left}
 use Rattle.reading.specs.Read.{readItem}
 use Rattle.writing.specs.Write.{writeShape}
@@ -23,6 +23,7 @@ use Rattle.types.specs.Write.{writeType, asyncShape, paramsShape, resultShape}
 use Rattle.items.specs.ReadImport.{readImport}
 use Rattle.imports.specs.Write.{writeImport}
 use Rattle.canonicals.specs.Write.{writeCanonical}
+use Rattle.instances.specs.Write.{writeCoreInstance, writeInstance}
 use Rattle.sections.specs.declared.Phase.{Phase}
 use Rattle.sections.specs.declared.Phase.the-variants.{Closed, Opened, Asynced, Parametered}
 use Rattle.sections.specs.declared.Section.{Section}
@@ -108,13 +109,16 @@ pub record ChangesNothingElse : Type 0 where
   -- writing
   pub put-value : (tag x at : ℕ) (out : List ℕ) → Stores at out (store (valtype tag x) at out)
   pub put-name : (pool : List ℕ) (start size at : ℕ) (out : List ℕ) → Stores at out (store (unsigned size ++ partOf pool start size) at out)
-  -- types, imports, canonicals
+  pub put-extern : (pool ws : List ℕ) (at : ℕ) (out : List ℕ) → Stores at out (store (externPart pool ws) at out)
+  -- types, imports, canonicals, instances
   pub write-type : (row pool out : List ℕ) (at : ℕ) → Writes at out (writeType row pool out at)
   pub write-async : (a : ℕ) (out : List ℕ) (at : ℕ) → Writes at out (writeShape asyncShape (a ∷ []) 0 [] out at)
   pub write-params : (first : Bool) (words pool out : List ℕ) (at : ℕ) → Writes at out (writeShape (paramsShape first) words 0 pool out at)
   pub write-result : (tag x : ℕ) (out : List ℕ) (at : ℕ) → Writes at out (writeShape resultShape (tag ∷ x ∷ []) 0 [] out at)
   pub write-import : (row pool out : List ℕ) (at : ℕ) → Writes at out (writeImport row pool out at)
   pub write-canonical : (row pool out : List ℕ) (at : ℕ) → Writes at out (writeCanonical row pool out at)
+  pub write-core-instance : (row pool out : List ℕ) (at : ℕ) → Writes at out (writeCoreInstance row pool out at)
+  pub write-instance : (row pool out : List ℕ) (at : ℕ) → Writes at out (writeInstance row pool out at)
   pub read-type : (g : ℕ) (input row : List ℕ) → Reads row (readType g input row)
   pub read-import : (g : ℕ) (input row : List ℕ) → Reads row (readImport g input row)
   -- sections: row, open, make_async, params, result, abandon, and finish, which leaves the state to its owner

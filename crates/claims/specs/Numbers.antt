@@ -9,7 +9,7 @@ use Rattle.numbers.specs.Leb.{unsigned, signed, takeUnsigned, takeSigned}
 use Rattle.numbers.specs.Numbers as numbers
 use Rattle.fields.specs.declared.Found.{Found}
 use Rattle.fields.specs.declared.Shape.{Shape}
-use Rattle.writing.specs.Binary.{valtype}
+use Rattle.writing.specs.Binary.{valtype, externPart}
 use Rattle.reading.specs.Read.{scannedItem, refusalOf}
 use Rattle.writing.specs.Row.{measuredRow}
 use Rattle.fields.specs.Answers.{numberOf}
@@ -19,6 +19,7 @@ use Rattle.types.specs.Write.{measuredType, writeType, asyncShape, paramsShape,
 use Rattle.items.specs.ReadImport.{readImport}
 use Rattle.imports.specs.Write.{measuredImport, writeImport}
 use Rattle.canonicals.specs.Write.{measuredCanonical, writeCanonical}
+use Rattle.instances.specs.Write.{measuredCoreInstance, writeCoreInstance, measuredInstance, writeInstance}
 use Rattle.sections.specs.declared.Section.{Section}
 use Rattle.sections.specs.Finish.{finishing}
 use Rattle.sections.specs.Section.{writeFamily}
@@ -58,6 +59,7 @@ pub record RefusesBy : Type 0 where
   -- writing
   pub put-value : Exactly (ℕ × ℕ × ℕ × List ℕ) (λ x. numbers.numberOf (store (valtype (x .0) (x .1)) (x .2) (x .3) .answer)) (0 ∷ 8 ∷ [])
   pub put-name : Exactly (List ℕ × ℕ × ℕ × ℕ × List ℕ) (λ x. numbers.numberOf (store (unsigned (x .2) ++ partOf (x .0) (x .1) (x .2)) (x .3) (x .4) .answer)) (0 ∷ 8 ∷ [])
+  pub put-extern : Exactly (List ℕ × List ℕ × ℕ × List ℕ) (λ x. numbers.numberOf (store (externPart (x .0) (x .1)) (x .2) (x .3) .answer)) (0 ∷ 8 ∷ [])
   -- types and imports: no row is TOO_BIG
   pub measure-type : Exactly (List ℕ × List ℕ) (λ x. numberOf (measuredType (x .0) (x .1))) (0 ∷ 1 ∷ 2 ∷ 3 ∷ 4 ∷ 5 ∷ 6 ∷ [])
   pub write-type : Exactly (List ℕ × List ℕ × List ℕ × ℕ) (λ x. numberOf (writeType (x .0) (x .1) (x .2) (x .3) .answer)) (0 ∷ 1 ∷ 2 ∷ 3 ∷ 4 ∷ 5 ∷ 6 ∷ 8 ∷ [])
@@ -71,6 +73,11 @@ pub record RefusesBy : Type 0 where
   -- canonicals: they have no names
   pub measure-canonical : Exactly (List ℕ × List ℕ) (λ x. numberOf (measuredCanonical (x .0) (x .1))) (0 ∷ 1 ∷ 2 ∷ 3 ∷ 4 ∷ [])
   pub write-canonical : Exactly (List ℕ × List ℕ × List ℕ × ℕ) (λ x. numberOf (writeCanonical (x .0) (x .1) (x .2) (x .3) .answer)) (0 ∷ 1 ∷ 2 ∷ 3 ∷ 4 ∷ 8 ∷ [])
+  -- instances, which have names: no row is TOO_BIG
+  pub measure-core-instance : Exactly (List ℕ × List ℕ) (λ x. numberOf (measuredCoreInstance (x .0) (x .1))) (0 ∷ 1 ∷ 2 ∷ 3 ∷ 4 ∷ 5 ∷ 6 ∷ [])
+  pub write-core-instance : Exactly (List ℕ × List ℕ × List ℕ × ℕ) (λ x. numberOf (writeCoreInstance (x .0) (x .1) (x .2) (x .3) .answer)) (0 ∷ 1 ∷ 2 ∷ 3 ∷ 4 ∷ 5 ∷ 6 ∷ 8 ∷ [])
+  pub measure-instance : Exactly (List ℕ × List ℕ) (λ x. numberOf (measuredInstance (x .0) (x .1))) (0 ∷ 1 ∷ 2 ∷ 3 ∷ 4 ∷ 5 ∷ 6 ∷ [])
+  pub write-instance : Exactly (List ℕ × List ℕ × List ℕ × ℕ) (λ x. numberOf (writeInstance (x .0) (x .1) (x .2) (x .3) .answer)) (0 ∷ 1 ∷ 2 ∷ 3 ∷ 4 ∷ 5 ∷ 6 ∷ 8 ∷ [])
   -- sections: TOO_BIG comes of finishing alone
   pub write-by : Exactly (ℕ × List ℕ × List ℕ × List ℕ × ℕ) (λ x. numberOf (writeFamily (x .0) (x .1) (x .2) (x .3) (x .4) .answer)) (0 ∷ 1 ∷ 2 ∷ 3 ∷ 4 ∷ 5 ∷ 6 ∷ 8 ∷ [])
   pub row : Exactly (Section × List ℕ × List ℕ × List ℕ) (λ x. numberOf (rowing (x .0) (x .1) (x .2) (x .3) .gave .answer)) (0 ∷ 1 ∷ 2 ∷ 3 ∷ 4 ∷ 5 ∷ 6 ∷ 8 ∷ 9 ∷ 10 ∷ [])

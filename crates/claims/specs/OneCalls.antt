@@ -31,6 +31,8 @@ use Rattle.writing.proofs.value_size as call-value-size
 use Rattle.writing.proofs.name_size as call-name-size
 use Rattle.writing.proofs.put_value as call-put-value
 use Rattle.writing.proofs.put_name as call-put-name
+use Rattle.writing.proofs.extern_size as call-extern-size
+use Rattle.writing.proofs.put_extern as call-put-extern
 use Rattle.reading.proofs.primitive as call-read-primitive
 use Rattle.reading.proofs.value as call-read-value
 use Rattle.reading.proofs.optional as call-read-optional
@@ -51,6 +53,10 @@ use Rattle.imports.proofs.write as call-write-import
 use Rattle.items.proofs.read_import as call-read-import
 use Rattle.canonicals.proofs.measure as call-measure-canonical
 use Rattle.canonicals.proofs.write as call-write-canonical
+use Rattle.instances.proofs.measure_core as call-measure-core-instance
+use Rattle.instances.proofs.write_core as call-write-core-instance
+use Rattle.instances.proofs.measure as call-measure-instance
+use Rattle.instances.proofs.write as call-write-instance
 use Rattle.sections.proofs.write_by as call-write-by
 use Rattle.sections.proofs.Section.new as call-new
 use Rattle.sections.proofs.Section.row as call-row
@@ -130,6 +136,8 @@ pub record NoSecondOutcome : Type 2 where
   pub name-size : OneOutcome call-name-size.ended (λ M. call-name-size.clauses)
   pub put-value : OneOutcome call-put-value.ended (λ M. call-put-value.clauses)
   pub put-name : OneOutcome call-put-name.ended (λ M. call-put-name.clauses)
+  pub extern-size : OneOutcome call-extern-size.ended (λ M. call-extern-size.clauses)
+  pub put-extern : OneOutcome call-put-extern.ended (λ M. call-put-extern.clauses)
   -- reading
   pub item-refusal : OneOutcome call-item-refusal.ended (λ M. call-item-refusal.clauses)
   pub read-primitive : OneOutcome call-read-primitive.ended (λ M. call-read-primitive.clauses)
@@ -153,6 +161,11 @@ pub record NoSecondOutcome : Type 2 where
   -- canonicals
   pub measure-canonical : OneOutcome call-measure-canonical.ended (λ M. call-measure-canonical.clauses)
   pub write-canonical : OneOutcome call-write-canonical.ended (λ M. call-write-canonical.clauses)
+  -- instances
+  pub measure-core-instance : OneOutcome call-measure-core-instance.ended (λ M. call-measure-core-instance.clauses)
+  pub write-core-instance : OneOutcome call-write-core-instance.ended (λ M. call-write-core-instance.clauses)
+  pub measure-instance : OneOutcome call-measure-instance.ended (λ M. call-measure-instance.clauses)
+  pub write-instance : OneOutcome call-write-instance.ended (λ M. call-write-instance.clauses)
   -- items
   pub read-type : OneOutcome call-read-type.ended (λ M. call-read-type.clauses)
   pub read-import : OneOutcome call-read-import.ended (λ M. call-read-import.clauses)

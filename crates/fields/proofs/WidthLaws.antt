@@ -28,6 +28,9 @@ wide-small field.OptionalIndex = omega arith
 wide-small field.Choice = omega arith
 wide-small field.ExternName = omega arith
 wide-small field.Reference = omega arith
+wide-small field.Argument = omega arith
+wide-small field.CoreSortIndex = omega arith
+wide-small field.SortIndex = omega arith
 
 pub wide-at-most : (f : Field) (n : ℕ) → n ≡ wide f → n ≤ 11
 wide-at-most f n e = rw e (wide-small f)

@@ -31,6 +31,9 @@ view pool field.Choice ws = word ws 0 ∷ word ws 1 ∷ []
 view pool field.ExternName ws =
     nameAt pool ws 0 ++ (optionalNameAt pool ws 2 ++ (optionalNameAt pool ws 5 ++ optionalNameAt pool ws 8))
 view pool field.Reference ws = word ws 0 ∷ word ws 1 ∷ word ws 2 ∷ []
+view pool field.Argument ws = word ws 0 ∷ []
+view pool field.CoreSortIndex ws = word ws 0 ∷ word ws 1 ∷ []
+view pool field.SortIndex ws = word ws 0 ∷ word ws 1 ∷ []
 
 -- a word, or a name's length and bytes
 pub data Part : Type 0 where
@@ -58,3 +61,6 @@ said pool field.Choice ws = Word (word ws 0) ∷ Word (word ws 1) ∷ []
 said pool field.ExternName ws =
     namePart pool ws 0 ∷ Word (word ws 2) ∷ namePart pool ws 3 ∷ Word (word ws 5) ∷ namePart pool ws 6 ∷ Word (word ws 8) ∷ namePart pool ws 9 ∷ []
 said pool field.Reference ws = Word (word ws 0) ∷ Word (word ws 1) ∷ Word (word ws 2) ∷ []
+said pool field.Argument ws = Word (word ws 0) ∷ []
+said pool field.CoreSortIndex ws = Word (word ws 0) ∷ Word (word ws 1) ∷ []
+said pool field.SortIndex ws = Word (word ws 0) ∷ Word (word ws 1) ∷ []

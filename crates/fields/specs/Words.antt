@@ -37,6 +37,9 @@ wide field.OptionalIndex = 2
 wide field.Choice = 2
 wide field.ExternName = 11
 wide field.Reference = 3
+wide field.Argument = 1
+wide field.CoreSortIndex = 2
+wide field.SortIndex = 2
 
 -- the options that name an index: memory, realloc, post-return, callback, core type
 unfoldable pub indexed : ℕ → Bool

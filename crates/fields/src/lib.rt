@@ -53,6 +53,12 @@ pub enum Field {
     ExternName,
     // What is imported: three words.
     Reference,
+    // An argument of a core instantiation: 12 and the index of an instance.
+    Argument,
+    // A core sort, a word below 5, and an index.
+    CoreSortIndex,
+    // A sort, a word below 6, and an index: 00 11 where the sort is 0, else its byte.
+    SortIndex,
 }
 
 // The fields of a kind in order: lead, zero, first and second; where counted, a number n and n times one and two; then last.

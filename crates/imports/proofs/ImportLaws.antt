@@ -1,30 +1,35 @@
 -- An import row: what is seen of its two fields makes its size, what a row that has a size holds, and what is answered of it.
-use Prim.Native.Nat.{ℕ, _+_, _^_, _≤_, _<_}
+use Prim.Native.Nat.{ℕ, _+_, _-_, _^_, _≤_, _<_}
 use native.Mathlib.Omega.{arith}
 use mathlib.Core.Path.{_≡_, refl, sym, ap, _∙_, subst}
 use mathlib.Core.Bool.{true, false}
 use mathlib.Core.List.{List, [], _∷_, _++_}
-use lib.ListN.{length, drop}
+use lib.ListN.{length, take, drop}
 use lib.Seq.{sets, getD-drop}
+use Rattle.numbers.specs.Bytes as stored
+use Rattle.numbers.specs.Bytes.{store}
+use Rattle.numbers.specs.Numbers.{valueOf}
+use Rattle.numbers.specs.declared.bytes.Stored.{Stored}
 use Rattle.fields.specs.declared.Answer.the-variants.{Size, Refused}
 use Rattle.fields.specs.declared.Field.the-variants as field
 use Rattle.fields.specs.declared.Flaw.the-variants.{Right}
 use Rattle.fields.specs.declared.Refusal.{Refusal}
 use Rattle.fields.specs.declared.Refusal.the-variants.{Room}
 use Rattle.fields.specs.Words.{word, wide}
-use Rattle.writing.specs.Binary.{externname, externdesc, bytes}
+use Rattle.writing.specs.Binary.{externname, externPart, externdesc, bytes}
 use Rattle.writing.specs.Judge.{flaw}
 use Rattle.writing.specs.Row.{measuredRow, rowBytes}
 use Rattle.writing.specs.inside.Wrote.{Wrote}
 use Rattle.fields.specs.Table.{shapeIn}
 use Rattle.fields.specs.Answers.{left}
+use Rattle.writing.proofs.ExternLaws.{extern-bound, extern-known, extern-wrote}
 use Rattle.writing.proofs.FlawLaws.{reference-below}
 use Rattle.writing.proofs.WroteLaws as wrote
-use Rattle.writing.specs.Sizes.{within}
+use Rattle.writing.specs.Sizes.{within, rightSize}
 use Rattle.writing.specs.inside.Rows.{Known, Fits}
 use Rattle.writing.proofs.RowLaws.{within-fits, within-not, bare-known, bare-held, written-answer, room-answer, refused-answer}
 use Rattle.imports.specs.Write.{shapeOf, measuredImport, writeImport}
-use Rattle.imports.proofs.ExternLaws.{reference-at, reference-some}
+use Rattle.imports.proofs.ReferenceLaws.{reference-at, reference-some}
 use Rattle.imports.proofs.SomeLaws.{import-some}
 
 module _ (row pool : List ℕ) where
@@ -34,12 +39,17 @@ module _ (row pool : List ℕ) where
   abbrev described : List ℕ
   described = externdesc (word row 12) (word row 13) (word row 14)
 
-  pub import-known : length row ≡ 15 → length pool ≤ 65536 → {q r : ℕ} → Known pool field.Reference (word row 12 ∷ word row 13 ∷ word row 14 ∷ []) q
-      → (flaw pool field.ExternName (drop 1 row) ≡ Right) × (r ≡ q + length extern) → r < 2 ^ 32 → measuredRow (shapeOf 17) row pool ≡ Size r
-  unfolding shapeIn wide bytes
-  import-known width small s e few =
-      bare-known field.ExternName field.Reference row pool small (omega arith) width (record { right = e .0; size = refl })
-      (reference-at pool row 12 s) (omega (arith, e .1)) few
+  pub import-known : length row ≡ 15 → length pool ≤ 65536 → {p q : ℕ}
+      → p ≡ rightSize pool field.ExternName (take (length row - 1) (drop 1 row)) → 0 < p
+      → Known pool field.Reference (word row 12 ∷ word row 13 ∷ word row 14 ∷ []) q → q ≤ 7
+      → (p + q < 2 ^ 32) × (measuredRow (shapeOf 17) row pool ≡ Size (p + q))
+  unfolding shapeIn wide
+  import-known width small {p} {q} e h s most =
+      let few : p + q < 2 ^ 32 = omega (arith, extern-bound pool (take (length row - 1) (drop 1 row)) small) in (
+        few,
+        bare-known field.ExternName field.Reference row pool small (omega arith) width (extern-known pool row 1 e h) (reference-at pool row 12 s) refl
+            few,
+      )
 
   described-at : bytes pool field.Reference (drop 12 row) ≡ described
   unfolding bytes
@@ -63,6 +73,12 @@ module _ (row pool : List ℕ) where
         size = omega (arith, h .size, ap length described-at);
         made = h .made ∙ ap (λ v. extern ++ v) described-at;
       }
+
+  pub extern-put : {to : ℕ} {old : List ℕ} → Fits (shapeOf 17) row pool to (length old) → {q : Stored} {s : ℕ} {new : List ℕ}
+      → stored.left q new ≡ store (externPart pool (take (length row - 1) (drop 1 row))) to old → s ≡ valueOf q → Wrote old to extern (to + s) new
+  extern-put f d v =
+      let held = import-held (f .measured) in
+      extern-wrote pool row 1 (held .right) d v (omega (arith, held .size, f .ends))
 
   pub import-put : {to size mid : ℕ} {old new last : List ℕ} → measuredRow (shapeOf 17) row pool ≡ Size size → Wrote old to extern mid new
       → last ≡ sets new mid described → last ≡ sets old to (rowBytes (shapeOf 17) pool row)

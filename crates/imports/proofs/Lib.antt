@@ -1,5 +1,5 @@
-pub mod ExternLaws
 pub mod ImportLaws
 pub mod Productions
+pub mod ReferenceLaws
 pub mod Rows
 pub mod SomeLaws

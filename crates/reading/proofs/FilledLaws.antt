@@ -12,7 +12,7 @@ use Rattle.fields.specs.declared.Field.{Field}
 use Rattle.fields.specs.declared.Field.the-variants as field
 use Rattle.fields.specs.declared.Leaf.{Leaf}
 use Rattle.fields.specs.declared.Leaf.the-variants.{Fine, Bad}
-use Rattle.reading.specs.Fill.{valueIn, index, primitive, fillValue, fillOptional, fillName, fillSlot, fillSlots, fillExtern, fillReference, fill}
+use Rattle.reading.specs.Fill.{valueIn, index, primitive, fillValue, fillOptional, fillName, fillSlot, fillSlots, fillExtern, fillReference, fill, fillSortIndex}
 use Rattle.fields.specs.Words.{wide}
 use Rattle.fields.specs.inside.Run.{along, makes, Under}
 use Rattle.reading.specs.Scan.{byte, headScan, firstScan, secondScan, scan}
@@ -75,7 +75,7 @@ reference-length bs =
     (omega (arith, cond-length (eqb (byte bs 1) 0) (0 ∷ index (drop 2 bs) ∷ []) (1 ∷ 0 ∷ []) 2 refl refl)) refl))
 
 pub fill-length : (g : ℕ) (f : Field) (at : ℕ) (bs : List ℕ) → length (fill g f at bs) ≡ wide f
-unfolding fill fillName wide
+unfolding fill fillName fillSortIndex wide
 fill-length g field.Nothing at bs = refl
 fill-length g (field.Fixed b) at bs = refl
 fill-length g field.Primitive at bs = refl
@@ -92,6 +92,9 @@ fill-length g field.OptionalIndex at bs = cond-length (eqb (byte bs 0) 0x00) (0 
 fill-length g field.Choice at bs = refl
 fill-length g field.ExternName at bs = extern-length g at bs
 fill-length g field.Reference at bs = reference-length bs
+fill-length g field.Argument at bs = refl
+fill-length g field.CoreSortIndex at bs = refl
+fill-length g field.SortIndex at bs = refl
 
 module _ (lead g : ℕ) (input : List ℕ) where
   -- the words of the fields from `at` of the input on

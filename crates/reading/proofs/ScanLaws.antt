@@ -21,7 +21,7 @@ use Rattle.fields.specs.declared.Leaf.{Leaf}
 use Rattle.fields.specs.declared.Leaf.the-variants.{Fine, Bad}
 use Rattle.fields.specs.Words.{indexed, wide}
 use Rattle.reading.specs.inside.Stages.{Inside}
-use Rattle.reading.specs.Scan.{byte, cut, there, asked, past, numbered, scanIndex, named, scanName, scanPrimitive, scanValue, zeroAt, either, scanOptional, thenZero, scanResult, scanChoice, onward, stringAt, counted, countAt, slotScan, endScan, headScan, firstScan, secondScan, scanExtern, scanBound, scanModule, three, scanReference, scanEither, scanOptionalIndex, scan}
+use Rattle.reading.specs.Scan.{byte, cut, there, asked, past, numbered, scanIndex, named, scanName, scanPrimitive, scanValue, zeroAt, either, scanOptional, thenZero, scanResult, scanChoice, onward, stringAt, counted, countAt, slotScan, endScan, headScan, firstScan, secondScan, scanExtern, scanBound, scanModule, three, scanReference, scanEither, scanOptionalIndex, scan, scanArgument, scanCoreSortIndex, scanSortIndex}
 
 -- a field takes at most n bytes and makes w words; a fault stands within n bytes
 abbrev pub Within : Leaf → ℕ → ℕ → Type 0
@@ -220,18 +220,34 @@ bound-near bs =
     there-near bs 1
     (λ h. cond-near (eqb (byte bs 1) 0) (index-behind 3 2 bs h) (cond-near (eqb (byte bs 1) 1) (fine 2 3 h refl) (bad _ 1 (omega arith))))
 
-module-near : (bs : List ℕ) → Near (length bs) (Words 3) (scanModule bs)
+module-near : (m : ℕ) (bs : List ℕ) → Near (length bs) (Words m) (scanModule m bs)
 unfolding scanModule
-module-near bs = there-near bs 1 (λ h. cond-near (eqb (byte bs 1) 0x11) (index-behind 3 2 bs h) (bad _ 1 (omega arith)))
+module-near m bs = there-near bs 1 (λ h. cond-near (eqb (byte bs 1) 0x11) (index-behind m 2 bs h) (bad _ 1 (omega arith)))
 
 reference-near : (g : ℕ) (bs : List ℕ) → Near (length bs) (Words 3) (scanReference g bs)
 unfolding scanReference
 reference-near g bs =
     there-near bs 0
-    (λ h. cond-near (eqb (byte bs 0) 0) (module-near bs)
+    (λ h. cond-near (eqb (byte bs 0) 0) (module-near 3 bs)
     (cond-near (eqb (byte bs 0) 2) (three-near (value-behind g 1 bs h))
     (cond-near (eqb (byte bs 0) 3) (bound-near bs)
     (cond-near (ltb (byte bs 0) 6) (index-behind 3 1 bs h) (bad _ 0 (omega arith))))))
+
+-- ---- arguments and items of instances
+
+argument-near : (bs : List ℕ) → Near (length bs) (Words 1) (scanArgument bs)
+unfolding scanArgument
+argument-near bs = there-near bs 0 (λ h. cond-near (eqb (byte bs 0) 0x12) (index-behind 1 1 bs h) (bad _ 0 (omega arith)))
+
+core-sort-near : (bs : List ℕ) → Near (length bs) (Words 2) (scanCoreSortIndex bs)
+unfolding scanCoreSortIndex
+core-sort-near bs = there-near bs 0 (λ h. cond-near (ltb (byte bs 0) 5) (index-behind 2 1 bs h) (bad _ 0 (omega arith)))
+
+sort-near : (bs : List ℕ) → Near (length bs) (Words 2) (scanSortIndex bs)
+unfolding scanSortIndex
+sort-near bs =
+    there-near bs 0
+    (λ h. cond-near (eqb (byte bs 0) 0) (module-near 2 bs) (cond-near (ltb (byte bs 0) 6) (index-behind 2 1 bs h) (bad _ 0 (omega arith))))
 
 -- ---- each field
 
@@ -254,6 +270,9 @@ scan-near lead g field.OptionalIndex bs = optional-index-near bs
 scan-near lead g field.Choice bs = choice-near bs
 scan-near lead g field.ExternName bs = extern-near g bs
 scan-near lead g field.Reference bs = reference-near g bs
+scan-near lead g field.Argument bs = argument-near bs
+scan-near lead g field.CoreSortIndex bs = core-sort-near bs
+scan-near lead g field.SortIndex bs = sort-near bs
 
 pub scan-within : (lead g : ℕ) (f : Field) (bs : List ℕ) → Within (scan lead g f bs) (length bs) (wide f)
 scan-within lead g f bs = within (scan-near lead g f bs)

@@ -23,7 +23,7 @@ use Rattle.fields.specs.declared.Refusal.{Refusal}
 use Rattle.fields.specs.Words.{word, indexed, wide}
 use Rattle.reading.specs.Fill.{valueIn, sizeIn, index, fillName, fill}
 use Rattle.fields.specs.inside.Run.{along, makes, Under}
-use Rattle.reading.specs.Scan.{byte, there, asked, past, numbered, scanIndex, named, scanName, scanPrimitive, scanValue, zeroAt, either, scanOptional, thenZero, scanResult, scanChoice, onward, stringAt, counted, countAt, slotScan, endScan, headScan, firstScan, secondScan, scanExtern, scanBound, scanModule, three, scanReference, scanEither, scanOptionalIndex, scan}
+use Rattle.reading.specs.Scan.{byte, there, asked, past, numbered, scanIndex, named, scanName, scanPrimitive, scanValue, zeroAt, either, scanOptional, thenZero, scanResult, scanChoice, onward, stringAt, counted, countAt, slotScan, endScan, headScan, firstScan, secondScan, scanExtern, scanBound, scanModule, three, scanReference, scanEither, scanOptionalIndex, scan, scanArgument, scanCoreSortIndex, scanSortIndex}
 use Rattle.fields.specs.Shape.{repeated, widths}
 use Rattle.fields.specs.Walk.{next, took}
 use Rattle.reading.proofs.FilledLaws.{fill-length}
@@ -54,6 +54,9 @@ Taking field.OptionalIndex = Unit {0}
 Taking field.Choice = Unit {0}
 Taking field.ExternName = Unit {0}
 Taking field.Reference = Unit {0}
+Taking field.Argument = Unit {0}
+Taking field.CoreSortIndex = Unit {0}
+Taking field.SortIndex = Unit {0}
 
 -- a field that is no fixed byte, and fields of which none is
 abbrev pub Loose : Field → Type 0
@@ -73,6 +76,9 @@ Loose field.OptionalIndex = Unit {0}
 Loose field.Choice = Unit {0}
 Loose field.ExternName = Unit {0}
 Loose field.Reference = Unit {0}
+Loose field.Argument = Unit {0}
+Loose field.CoreSortIndex = Unit {0}
+Loose field.SortIndex = Unit {0}
 
 abbrev pub Open : List Field → Type 0
 Open [] = Unit {0}
@@ -96,6 +102,9 @@ Still field.OptionalIndex = Unit {0}
 Still field.Choice = Unit {0}
 Still field.ExternName = ⊥
 Still field.Reference = Unit {0}
+Still field.Argument = Unit {0}
+Still field.CoreSortIndex = Unit {0}
+Still field.SortIndex = Unit {0}
 
 -- ---- a field that is right takes at least one byte
 
@@ -241,7 +250,7 @@ reference-some g bs =
     (cond-some (ltb (byte bs 0) 6) (past-some 1 (omega arith) (scanIndex 3 (drop 1 bs))) (bad _ _)))))
 
 scan-some : (g : ℕ) (f : Field) (bs : List ℕ) → Taking f → Some (scan 1 g f bs)
-unfolding scan
+unfolding scan scanArgument scanCoreSortIndex scanSortIndex scanModule
 scan-some g field.Nothing bs h = absurd h
 scan-some g (field.Fixed b) bs h = there-some bs 0 (cond-some (eqb (byte bs 0) b) (asked-some g 1 0 (fine 1 0 (omega arith))) (bad _ _))
 scan-some g field.Primitive bs h = there-some bs 0 (primitive-some g (byte bs 0) (fine 1 1 (omega arith)))
@@ -258,6 +267,13 @@ scan-some g field.OptionalIndex bs h = optional-index-some bs
 scan-some g field.Choice bs h = choice-some bs
 scan-some g field.ExternName bs h = extern-some g bs
 scan-some g field.Reference bs h = reference-some g bs
+scan-some g field.Argument bs h = there-some bs 0 (cond-some (eqb (byte bs 0) 0x12) (past-some 1 (omega arith) (scanIndex 1 (drop 1 bs))) (bad _ _))
+scan-some g field.CoreSortIndex bs h = there-some bs 0 (cond-some (ltb (byte bs 0) 5) (past-some 1 (omega arith) (scanIndex 2 (drop 1 bs))) (bad _ _))
+scan-some g field.SortIndex bs h =
+    there-some bs 0
+    (cond-some (eqb (byte bs 0) 0)
+    (there-some bs 1 (cond-some (eqb (byte bs 1) 0x11) (past-some 2 (omega arith) (scanIndex 2 (drop 2 bs))) (bad _ _)))
+    (cond-some (ltb (byte bs 0) 6) (past-some 1 (omega arith) (scanIndex 2 (drop 1 bs))) (bad _ _)))
 
 -- an answer that is right takes bytes
 abbrev Moves : Leaf → Type 0
@@ -376,6 +392,9 @@ fill-at g field.OptionalIndex at bs h = refl
 fill-at g field.Choice at bs h = refl
 fill-at g field.ExternName at bs h = absurd h
 fill-at g field.Reference at bs h = refl
+fill-at g field.Argument at bs h = refl
+fill-at g field.CoreSortIndex at bs h = refl
+fill-at g field.SortIndex at bs h = refl
 
 pub name-at : (g at : ℕ) (bs : List ℕ) (a b : ℕ) → fill g field.Name 0 bs ≡ a ∷ b ∷ [] → fill g field.Name at bs ≡ (at + a) ∷ b ∷ []
 unfolding fill fillName
@@ -431,6 +450,9 @@ scan-any lead g field.OptionalIndex bs h = refl
 scan-any lead g field.Choice bs h = refl
 scan-any lead g field.ExternName bs h = refl
 scan-any lead g field.Reference bs h = refl
+scan-any lead g field.Argument bs h = refl
+scan-any lead g field.CoreSortIndex bs h = refl
+scan-any lead g field.SortIndex bs h = refl
 
 open-agree : (lead g : ℕ) (fs : List Field) → Open fs → Agree (scan lead g) (scan 1 g) (fill g) (fill g) fs
 open-agree lead g [] h = none

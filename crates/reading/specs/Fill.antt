@@ -63,6 +63,9 @@ fillReference bs =
     (cond (eqb (byte bs 0) 3) (3 ∷ cond (eqb (byte bs 1) 0) (0 ∷ index (drop 2 bs) ∷ []) (1 ∷ 0 ∷ []))
     (byte bs 0 ∷ index (drop 1 bs) ∷ 0 ∷ [])))
 
+unfoldable pub fillSortIndex : List ℕ → List ℕ
+fillSortIndex bs = byte bs 0 ∷ index (drop (cond (eqb (byte bs 0) 0) 2 1) bs) ∷ []
+
 unfoldable pub fill : ℕ → Field → ℕ → List ℕ → List ℕ
 fill g field.Nothing at bs = []
 fill g (field.Fixed b) at bs = []
@@ -80,3 +83,6 @@ fill g field.OptionalIndex at bs = cond (eqb (byte bs 0) 0x00) (0 ∷ 0 ∷ []) 
 fill g field.Choice at bs = byte bs 0 ∷ cond (indexed (byte bs 0)) (index (drop 1 bs)) 0 ∷ []
 fill g field.ExternName at bs = fillExtern g at bs
 fill g field.Reference at bs = fillReference bs
+fill g field.Argument at bs = index (drop 1 bs) ∷ []
+fill g field.CoreSortIndex at bs = byte bs 0 ∷ index (drop 1 bs) ∷ []
+fill g field.SortIndex at bs = fillSortIndex bs

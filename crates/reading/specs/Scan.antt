@@ -137,8 +137,9 @@ scanExtern g bs = onward (onward (secondScan g bs) (slotScan 0x02 bs)) (endScan 
 unfoldable pub scanBound : List ℕ → Leaf
 scanBound bs = there bs 1 (cond (eqb (byte bs 1) 0) (past 2 (scanIndex 3 (drop 2 bs))) (cond (eqb (byte bs 1) 1) (Fine 2 3) (Bad Code 1)))
 
-unfoldable pub scanModule : List ℕ → Leaf
-scanModule bs = there bs 1 (cond (eqb (byte bs 1) 0x11) (past 2 (scanIndex 3 (drop 2 bs))) (Bad Code 1))
+-- 00 11 and an index, which make m words
+unfoldable pub scanModule : ℕ → List ℕ → Leaf
+scanModule m bs = there bs 1 (cond (eqb (byte bs 1) 0x11) (past 2 (scanIndex m (drop 2 bs))) (Bad Code 1))
 
 -- three words of what follows the sort
 abbrev pub three : Leaf → Leaf
@@ -148,7 +149,7 @@ three (Bad w j) = Bad w j
 unfoldable pub scanReference : ℕ → List ℕ → Leaf
 scanReference g bs =
     there bs 0
-    (cond (eqb (byte bs 0) 0) (scanModule bs)
+    (cond (eqb (byte bs 0) 0) (scanModule 3 bs)
     (cond (eqb (byte bs 0) 2) (three (past 1 (scanValue g (drop 1 bs))))
     (cond (eqb (byte bs 0) 3) (scanBound bs)
     (cond (ltb (byte bs 0) 6) (past 1 (scanIndex 3 (drop 1 bs))) (Bad Code 0)))))
@@ -161,6 +162,17 @@ scanEither g n a b bs = either bs a (Fine 1 1) b (asked g n 0 (Fine 1 1))
 
 unfoldable pub scanOptionalIndex : List ℕ → Leaf
 scanOptionalIndex bs = either bs 0x00 (Fine 1 2) 0x01 (past 1 (scanIndex 2 (drop 1 bs)))
+
+unfoldable pub scanArgument : List ℕ → Leaf
+scanArgument bs = there bs 0 (cond (eqb (byte bs 0) 0x12) (past 1 (scanIndex 1 (drop 1 bs))) (Bad Code 0))
+
+unfoldable pub scanCoreSortIndex : List ℕ → Leaf
+scanCoreSortIndex bs = there bs 0 (cond (ltb (byte bs 0) 5) (past 1 (scanIndex 2 (drop 1 bs))) (Bad Code 0))
+
+unfoldable pub scanSortIndex : List ℕ → Leaf
+scanSortIndex bs =
+    there bs 0
+    (cond (eqb (byte bs 0) 0) (scanModule 2 bs) (cond (ltb (byte bs 0) 6) (past 1 (scanIndex 2 (drop 1 bs))) (Bad Code 0)))
 
 unfoldable pub scan : ℕ → ℕ → Field → List ℕ → Leaf
 scan lead g field.Nothing bs = Fine 0 0
@@ -179,3 +191,6 @@ scan lead g field.OptionalIndex bs = scanOptionalIndex bs
 scan lead g field.Choice bs = scanChoice bs
 scan lead g field.ExternName bs = scanExtern g bs
 scan lead g field.Reference bs = scanReference g bs
+scan lead g field.Argument bs = scanArgument bs
+scan lead g field.CoreSortIndex bs = scanCoreSortIndex bs
+scan lead g field.SortIndex bs = scanSortIndex bs

@@ -7,7 +7,7 @@ use numbers::Taken;
 ghost use mathlib.Core.Path.{_≡_};
 ghost use Prim.Native.Nat.{_<_, _≤_, _+_, _^_};
 ghost use lib.ListN.{length, getD, drop};
-ghost use Rattle.reading.specs.Scan.{cut, there, asked, past, scanIndex, scanName, scanPrimitive, scanValue, zeroAt, scanOptional, thenZero, scanResult, scanChoice, onward, stringAt, countAt, slotScan, endScan, headScan, firstScan, secondScan, scanExtern, scanBound, scanModule, three, scanReference, scanEither, scanOptionalIndex, scan};
+ghost use Rattle.reading.specs.Scan.{cut, there, asked, past, scanIndex, scanName, scanPrimitive, scanValue, zeroAt, scanOptional, thenZero, scanResult, scanChoice, onward, stringAt, countAt, slotScan, endScan, headScan, firstScan, secondScan, scanExtern, scanBound, scanModule, three, scanReference, scanEither, scanOptionalIndex, scanArgument, scanCoreSortIndex, scanSortIndex, scan};
 ghost use Rattle.reading.specs.inside.Stages.{Inside};
 ghost use Rattle.fields.specs.Limits.{inputBytes};
 
@@ -360,15 +360,16 @@ fn scan_bound(bs: &[u8]) -> Leaf
     Leaf::Bad(Refusal::Code, 1)
 }
 
-fn scan_module(bs: &[u8]) -> Leaf
+// 00 11 and an index, which make m words.
+fn scan_module(m: usize, bs: &[u8]) -> Leaf
     requires { ⌜ length (now bs) ≤ inputBytes ⌝ }
-    ensures { λ r. ⌜ r ≡ scanModule (now (bs .entry)) ⌝ }
+    ensures { λ r. ⌜ r ≡ scanModule m (now (bs .entry)) ⌝ }
 {
     if bs.len() <= 1 {
         return cut_short(bs);
     }
     if byte_at(bs, 1) == 0x11 {
-        return index_behind(3, 2, bs);
+        return index_behind(m, 2, bs);
     }
     Leaf::Bad(Refusal::Code, 1)
 }
@@ -393,7 +394,7 @@ fn scan_reference(grade: u32, bs: &[u8]) -> Leaf
     }
     let sort = byte_at(bs, 0);
     if sort == 0 {
-        return scan_module(bs);
+        return scan_module(3, bs);
     }
     if sort == 2 {
         return scan_value_reference(grade, bs);
@@ -463,6 +464,52 @@ fn scan_primitive(grade: u32, bs: &[u8]) -> Leaf
     primitive_or(grade, byte_at(bs, 0), Leaf::Fine(1, 1))
 }
 
+// 12 and an index.
+fn scan_argument(bs: &[u8]) -> Leaf
+    requires { ⌜ length (now bs) ≤ inputBytes ⌝ }
+    ensures { λ r. ⌜ r ≡ scanArgument (now (bs .entry)) ⌝ }
+{
+    if bs.len() <= 0 {
+        return cut_short(bs);
+    }
+    if byte_at(bs, 0) == 0x12 {
+        return index_behind(1, 1, bs);
+    }
+    Leaf::Bad(Refusal::Code, 0)
+}
+
+// A core sort and an index.
+fn scan_core_sort_index(bs: &[u8]) -> Leaf
+    requires { ⌜ length (now bs) ≤ inputBytes ⌝ }
+    ensures { λ r. ⌜ r ≡ scanCoreSortIndex (now (bs .entry)) ⌝ }
+{
+    if bs.len() <= 0 {
+        return cut_short(bs);
+    }
+    if byte_at(bs, 0) < 5 {
+        return index_behind(2, 1, bs);
+    }
+    Leaf::Bad(Refusal::Code, 0)
+}
+
+// A sort and an index.
+fn scan_sort_index(bs: &[u8]) -> Leaf
+    requires { ⌜ length (now bs) ≤ inputBytes ⌝ }
+    ensures { λ r. ⌜ r ≡ scanSortIndex (now (bs .entry)) ⌝ }
+{
+    if bs.len() <= 0 {
+        return cut_short(bs);
+    }
+    let sort = byte_at(bs, 0);
+    if sort == 0 {
+        return scan_module(2, bs);
+    }
+    if sort < 6 {
+        return index_behind(2, 1, bs);
+    }
+    Leaf::Bad(Refusal::Code, 0)
+}
+
 // What stands at the front of the input, as that field.
 pub fn scan_field(f: Field, lead: u32, grade: u32, bs: &[u8]) -> Leaf
     requires { ⌜ length (now bs) ≤ inputBytes ⌝ }
@@ -485,5 +532,8 @@ pub fn scan_field(f: Field, lead: u32, grade: u32, bs: &[u8]) -> Leaf
         Field::Choice => scan_choice(bs),
         Field::ExternName => scan_extern(grade, bs),
         Field::Reference => scan_reference(grade, bs),
+        Field::Argument => scan_argument(bs),
+        Field::CoreSortIndex => scan_core_sort_index(bs),
+        Field::SortIndex => scan_sort_index(bs),
     }
 }

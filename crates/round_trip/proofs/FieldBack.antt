@@ -18,15 +18,15 @@ use Rattle.fields.specs.declared.Refusal.the-variants.{Tag, Newer}
 use Rattle.fields.specs.declared.Leaf.{Leaf}
 use Rattle.fields.specs.declared.Leaf.the-variants.{Fine, Bad}
 use Rattle.fields.specs.Words.{word, Words, indexed, wide}
-use Rattle.writing.specs.Binary.{name, primvaltype, valtype, optional, resultlist, functype, flag, representation, destructor, canonopt, typebound, externdesc, bytes}
-use Rattle.reading.specs.Fill.{index, primitive, fillValue, fillOptional, fillReference, fill}
+use Rattle.writing.specs.Binary.{name, primvaltype, valtype, optional, resultlist, functype, flag, representation, destructor, canonopt, typebound, externdesc, bytes, argument, coresortidx, sortidx}
+use Rattle.reading.specs.Fill.{index, primitive, fillValue, fillOptional, fillReference, fill, fillSortIndex}
 use Rattle.writing.specs.Judge.{below, value, optionalValue, optionalIndex, choice, reference, flaw}
 use Rattle.round_trip.specs.Mark.{Mark, Clear, At, primitiveGrade, valueMark, mark}
-use Rattle.reading.specs.Scan.{byte, past, numbered, scanIndex, scanPrimitive, scanValue, scanOptional, thenZero, scanResult, scanChoice, scanBound, scanModule, three, scanReference, scanEither, scanOptionalIndex, scan}
+use Rattle.reading.specs.Scan.{byte, past, numbered, scanIndex, scanPrimitive, scanValue, scanOptional, thenZero, scanResult, scanChoice, scanBound, scanModule, three, scanReference, scanEither, scanOptionalIndex, scan, scanArgument, scanCoreSortIndex, scanSortIndex}
 use Rattle.fields.specs.View.{Name, view, said}
 use Rattle.round_trip.proofs.Back.{Back, answer}
 use Rattle.round_trip.proofs.ExternBack.{name-right, name-back, extern-back}
-use Rattle.writing.proofs.FlawLaws.{extern-right}
+use Rattle.writing.proofs.FlawLaws.{extern-right, below-is}
 use Rattle.numbers.proofs.Impossible.{impossible}
 
 -- a list has a first element, and a second
@@ -380,6 +380,46 @@ module _ (g : ℕ) (any : 1 ≤ g) (rest : List ℕ) where
   reference-says fresh = refl
   reference-says {s} {x} (other h₀ h₂ h₃ h₆ h) = simp (h₀, h₂, h₃) (ap (λ n. s ∷ n ∷ 0 ∷ []) (index-says x h rest))
 
+-- ---- arguments and items of instances
+
+argument-scans : (x : ℕ) → x < 2 ^ 32 → (rest : List ℕ) → scanArgument (argument x ++ rest) ≡ Fine (length (argument x)) 1
+unfolding scanArgument argument
+argument-scans x h rest = simp some-there (past-one x h rest 1)
+
+argument-says : (x : ℕ) → x < 2 ^ 32 → (rest : List ℕ) → index (drop 1 (argument x ++ rest)) ∷ [] ≡ x ∷ []
+unfolding argument
+argument-says x h rest = ap (λ n. n ∷ []) (index-says x h rest)
+
+core-sort-scans : (s x : ℕ) → s < 5 → x < 2 ^ 32 → (rest : List ℕ) → scanCoreSortIndex (coresortidx s x ++ rest) ≡ Fine (length (coresortidx s x)) 2
+unfolding scanCoreSortIndex coresortidx
+core-sort-scans s x k h rest = simp (some-there, lt-ltb s 5 k) (past-one x h rest 2)
+
+core-sort-says : (s x : ℕ) → x < 2 ^ 32 → (rest : List ℕ)
+    → byte (coresortidx s x ++ rest) 0 ∷ index (drop 1 (coresortidx s x ++ rest)) ∷ [] ≡ s ∷ x ∷ []
+unfolding coresortidx
+core-sort-says s x h rest = ap (λ n. s ∷ n ∷ []) (index-says x h rest)
+
+pub data OfSort : ℕ → Type 0 where
+  core : OfSort 0
+  other : {s : ℕ} → eqb s 0 ≡ false → s < 6 → OfSort s
+
+sort-right : (ws : List ℕ) → below 6 ws 0 ≡ Right → OfSort (word ws 0)
+sort-right ws e = go (eqb (word ws 0) 0) refl
+  where
+    go : (b : Bool) → eqb (word ws 0) 0 ≡ b → OfSort (word ws 0)
+    go true t = rw (eqb-true (word ws 0) 0 t) core
+    go false t = other t (below-is 6 ws 0 e)
+
+sort-scans : {s x : ℕ} → OfSort s → x < 2 ^ 32 → (rest : List ℕ) → scanSortIndex (sortidx s x ++ rest) ≡ Fine (length (sortidx s x)) 2
+unfolding scanSortIndex scanModule sortidx
+sort-scans {s} {x} core h rest = simp (some-there, two-there) (past-two x h rest 2)
+sort-scans {s} {x} (other z k) h rest = simp (z, some-there, lt-ltb s 6 k) (past-one x h rest 2)
+
+sort-says : {s x : ℕ} → OfSort s → x < 2 ^ 32 → (rest : List ℕ) → fillSortIndex (sortidx s x ++ rest) ≡ s ∷ x ∷ []
+unfolding fillSortIndex sortidx
+sort-says {s} {x} core h rest = ap (λ n. 0 ∷ n ∷ []) (index-says x h rest)
+sort-says {s} {x} (other z k) h rest = simp z (ap (λ n. s ∷ n ∷ []) (index-says x h rest))
+
 -- ---- each field
 
 -- a field whose words are read as they stand
@@ -466,3 +506,11 @@ module _ (lead g : ℕ) (any : 1 ≤ g) (pool input : List ℕ) where
   field-back field.Reference ws fw e rest b q =
       let r = reference-right ws fw e in
       as-words (word ws 0 ∷ word ws 1 ∷ word ws 2 ∷ []) (reference-scans g any rest r) (reference-says g any rest r) refl (λ more. refl) (λ more. refl)
+  field-back field.Argument ws fw e rest b q =
+      as-words (word ws 0 ∷ []) (argument-scans (word ws 0) (fw 0) rest) (argument-says (word ws 0) (fw 0) rest) refl (λ more. refl) (λ more. refl)
+  field-back field.CoreSortIndex ws fw e rest b q =
+      as-words (word ws 0 ∷ word ws 1 ∷ []) (core-sort-scans (word ws 0) (word ws 1) (below-is 5 ws 0 e) (fw 1) rest)
+      (core-sort-says (word ws 0) (word ws 1) (fw 1) rest) refl (λ more. refl) (λ more. refl)
+  field-back field.SortIndex ws fw e rest b q =
+      let s = sort-right ws e in
+      as-words (word ws 0 ∷ word ws 1 ∷ []) (sort-scans s (fw 1) rest) (sort-says s (fw 1) rest) refl (λ more. refl) (λ more. refl)

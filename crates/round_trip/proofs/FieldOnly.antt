@@ -5,7 +5,7 @@ use native.Mathlib.Numerals.{add-one}
 use mathlib.Core.Path.{_≡_, refl, sym, ap, _∙_}
 use mathlib.Core.Bool.{Bool, true, false, cond}
 use mathlib.Core.List.{List, [], _∷_, _++_}
-use borrow.Author.Tests.{eqb-true}
+use borrow.Author.Tests.{eqb-true, lt-ltb}
 use lib.Dec.{eqb}
 use lib.ListN.{length, take, drop}
 use lib.Seq.{take-suc}
@@ -25,7 +25,7 @@ use Rattle.fields.specs.View.{view}
 use Rattle.round_trip.proofs.ExternOnly.{name-found, name-seen, name-judged, extern-only}
 use Rattle.round_trip.proofs.FieldBack.{Optioned, Bit, off, on}
 use Rattle.round_trip.proofs.Only.{Only, only-words}
-use Rattle.round_trip.proofs.ScanOnly.{there-fine, asked-fine, front, bytes-behind, index-seen, prime-seen, PairSeen, value-seen, optional-seen, result-seen, present-seen, choice-seen, bit-seen, reference-seen, prime-judged, value-judged, optional-judged, present-judged, choice-judged, reference-judged}
+use Rattle.round_trip.proofs.ScanOnly.{there-fine, asked-fine, front, bytes-behind, index-seen, prime-seen, PairSeen, value-seen, optional-seen, result-seen, present-seen, choice-seen, bit-seen, reference-seen, prime-judged, value-judged, optional-judged, present-judged, choice-judged, reference-judged, argument-seen, core-sort-seen, sort-seen}
 use Rattle.numbers.proofs.Impossible.{impossible}
 
 -- a byte 00 behind an optional value
@@ -130,3 +130,12 @@ module _ (lead g e : ℕ) (input : List ℕ) (fi : Bytes input) where
       let v = reference-seen g (drop b input) t m (bytes-behind input b fi) s in
       only-words (v .s ∷ v .x ∷ v .y ∷ []) (v .fills) refl (v .makes) (v .inside) (λ more. reference-judged more (v .right)) (λ more. v .again)
       (λ more. refl)
+  field-only field.Argument b t m s h =
+      let v = argument-seen (drop b input) t m (bytes-behind input b fi) s in
+      only-words (v .x ∷ []) (ap (λ n. n ∷ []) (v .reads)) refl (v .makes) (v .inside) (λ more. refl) (λ more. v .again) (λ more. refl)
+  field-only field.CoreSortIndex b t m s h =
+      let v = core-sort-seen (drop b input) t m (bytes-behind input b fi) s in
+      only-words (v .s ∷ v .x ∷ []) (v .fills) refl (v .makes) (v .inside) (λ more. simp (lt-ltb _ _ (v .right))) (λ more. v .again) (λ more. refl)
+  field-only field.SortIndex b t m s h =
+      let v = sort-seen (drop b input) t m (bytes-behind input b fi) s in
+      only-words (v .s ∷ v .x ∷ []) (v .fills) refl (v .makes) (v .inside) (λ more. simp (lt-ltb _ _ (v .right))) (λ more. v .again) (λ more. refl)

@@ -18,11 +18,11 @@ use Rattle.fields.specs.declared.Flaw.the-variants.{Right}
 use Rattle.fields.specs.declared.Refusal.the-variants.{Code, Newer}
 use Rattle.fields.specs.declared.Leaf.{Leaf}
 use Rattle.fields.specs.declared.Leaf.the-variants.{Fine, Bad}
-use Rattle.writing.specs.Binary.{primvaltype, valtype, optional, resultlist, destructor, canonopt, typebound, externdesc}
+use Rattle.writing.specs.Binary.{primvaltype, valtype, optional, resultlist, destructor, canonopt, typebound, externdesc, argument, coresortidx, sortidx}
 use Rattle.fields.specs.Words.{indexed}
-use Rattle.reading.specs.Fill.{index, valueIn, primitive, fillValue, fillOptional, fillReference}
+use Rattle.reading.specs.Fill.{index, valueIn, primitive, fillValue, fillOptional, fillReference, fillSortIndex}
 use Rattle.writing.specs.Judge.{below, value, optionalValue, optionalIndex, choice, reference}
-use Rattle.reading.specs.Scan.{byte, cut, there, asked, past, numbered, either, zeroAt, scanIndex, scanPrimitive, scanValue, scanOptional, scanResult, scanChoice, scanBound, scanModule, three, scanReference, scanEither, scanOptionalIndex}
+use Rattle.reading.specs.Scan.{byte, cut, there, asked, past, numbered, either, zeroAt, scanIndex, scanPrimitive, scanValue, scanOptional, scanResult, scanChoice, scanBound, scanModule, three, scanReference, scanEither, scanOptionalIndex, scanArgument, scanCoreSortIndex, scanSortIndex}
 use Rattle.round_trip.proofs.FieldBack.{Valued, primed, typed, Optioned, none, some, not-two, Bit, off, on, Primed, old, new, Present, absent, present, Chosen, with, bare, Referred, core, valued, equal, fresh, other, one-more}
 use Rattle.numbers.proofs.Impossible.{impossible}
 
@@ -378,20 +378,20 @@ three-fine (Fine a c) t m e = let q : a ≡ t = cc in (c, ap (λ n. Fine n c) q,
 three-fine (Bad w j) t m e = impossible cc
 
 -- an index behind two bytes
-record BehindTwo (xs : List ℕ) (a b t m : ℕ) : Type 0 where
+record BehindTwo (n : ℕ) (xs : List ℕ) (a b t m : ℕ) : Type 0 where
   pub x : ℕ
   pub small : x < 2 ^ 32
   pub reads : index (drop 2 xs) ≡ x
   pub again : a ∷ b ∷ unsigned x ≡ take t xs
   pub inside : t ≤ length xs
-  pub makes : m ≡ 3
+  pub makes : m ≡ n
 
-behind-two : (xs : List ℕ) (a b t m : ℕ) → Bytes xs → 1 < length xs → byte xs 0 ≡ a → byte xs 1 ≡ b
-    → past 2 (scanIndex 3 (drop 2 xs)) ≡ Fine t m → BehindTwo xs a b t m
-behind-two xs a b t m f h ea eb e =
-    let p = past-fine 2 (scanIndex 3 (drop 2 xs)) t m e in
+behind-two : (n : ℕ) (xs : List ℕ) (a b t m : ℕ) → Bytes xs → 1 < length xs → byte xs 0 ≡ a → byte xs 1 ≡ b
+    → past 2 (scanIndex n (drop 2 xs)) ≡ Fine t m → BehindTwo n xs a b t m
+behind-two n xs a b t m f h ea eb e =
+    let p = past-fine 2 (scanIndex n (drop 2 xs)) t m e in
     let k = p .0 in
-    let s = index-seen (drop 2 xs) 3 k m (bytes-behind xs 2 f) (p .1) in
+    let s = index-seen (drop 2 xs) n k m (bytes-behind xs 2 f) (p .1) in
     let i = s .inside in
     let et : t ≡ 2 + k = p .2 in
     let ea′ = sym ea in
@@ -420,7 +420,7 @@ reference-seen g xs t m f e =
     module-seen : (b : Bool) → 1 < length xs → eqb y₁ 0x11 ≡ b → y₀ ≡ 0 → cond b (past 2 (scanIndex 3 (drop 2 xs))) (Bad Code 1) ≡ Fine t m
         → ReferenceSeen xs t m
     module-seen true h q z e =
-        let k = behind-two xs 0 0x11 t m f h z (eqb-true _ _ q) e in
+        let k = behind-two 3 xs 0 0x11 t m f h z (eqb-true _ _ q) e in
         record {
           s = 0;
           x = k .x;
@@ -436,7 +436,7 @@ reference-seen g xs t m f e =
     bound-seen : (b c : Bool) → 1 < length xs → eqb y₁ 0 ≡ b → eqb y₁ 1 ≡ c → y₀ ≡ 3
         → cond b (past 2 (scanIndex 3 (drop 2 xs))) (cond c (Fine 2 3) (Bad Code 1)) ≡ Fine t m → ReferenceSeen xs t m
     bound-seen true c h p q z e =
-        let k = behind-two xs 3 0 t m f h z (eqb-true _ _ p) e in
+        let k = behind-two 3 xs 3 0 t m f h z (eqb-true _ _ p) e in
         record {
           s = 3;
           x = 0;
@@ -464,7 +464,7 @@ reference-seen g xs t m f e =
     bound-seen false false h p q z e = impossible cc
 
     go : (a b c d : Bool) → eqb y₀ 0 ≡ a → eqb y₀ 2 ≡ b → eqb y₀ 3 ≡ c → ltb y₀ 6 ≡ d → 0 < length xs
-        → cond a (scanModule xs)
+        → cond a (scanModule 3 xs)
         (cond b (three (past 1 (scanValue g (drop 1 xs)))) (cond c (scanBound xs) (cond d (past 1 (scanIndex 3 (drop 1 xs))) (Bad Code 0)))) ≡ Fine t m
         → ReferenceSeen xs t m
     go true b c d ha hb hc hd h e =
@@ -509,6 +509,119 @@ reference-seen g xs t m f e =
           makes = s .makes;
         }
     go false false false false ha hb hc hd h e = impossible cc
+
+-- ---- arguments and items of instances
+
+-- an index behind one byte
+record BehindOne (n : ℕ) (xs : List ℕ) (t m : ℕ) : Type 0 where
+  pub x : ℕ
+  pub small : x < 2 ^ 32
+  pub reads : index (drop 1 xs) ≡ x
+  pub again : byte xs 0 ∷ unsigned x ≡ take t xs
+  pub inside : t ≤ length xs
+  pub makes : m ≡ n
+
+behind-one : (n : ℕ) (xs : List ℕ) (t m : ℕ) → Bytes xs → 0 < length xs → past 1 (scanIndex n (drop 1 xs)) ≡ Fine t m → BehindOne n xs t m
+behind-one n xs t m f h e =
+    let p = past-fine 1 (scanIndex n (drop 1 xs)) t m e in
+    let k = p .0 in
+    let s = index-seen (drop 1 xs) n k m (bytes-behind xs 1 f) (p .1) in
+    let i = s .inside in
+    let et : t ≡ 1 + k = p .2 in
+    record {
+      x = s .x;
+      small = s .small;
+      reads = s .reads;
+      again = ap (λ l. byte xs 0 ∷ l) (s .again) ∙ sym (front xs k h) ∙ ap (λ k. take k xs) (sym et);
+      inside = omega (arith, length-drop 1 xs);
+      makes = s .makes;
+    }
+
+pub record ArgumentSeen (xs : List ℕ) (t m : ℕ) : Type 0 where
+  pub x : ℕ
+  pub reads : index (drop 1 xs) ≡ x
+  pub again : argument x ≡ take t xs
+  pub inside : t ≤ length xs
+  pub makes : m ≡ 1
+
+pub argument-seen : (xs : List ℕ) (t m : ℕ) → Bytes xs → scanArgument xs ≡ Fine t m → ArgumentSeen xs t m
+unfolding scanArgument argument
+argument-seen xs t m f e = let p = there-fine xs 0 _ t m e in go (eqb (byte xs 0) 0x12) refl (p .0) (p .1)
+  where
+    go : (b : Bool) → eqb (byte xs 0) 0x12 ≡ b → 0 < length xs → cond b (past 1 (scanIndex 1 (drop 1 xs))) (Bad Code 0) ≡ Fine t m → ArgumentSeen xs t m
+    go true q h e =
+        let k = behind-one 1 xs t m f h e in
+        let z = sym (eqb-true (byte xs 0) 0x12 q) in
+        record { x = k .x; reads = k .reads; again = (λ i. z i ∷ unsigned (k .x)) ∙ k .again; inside = k .inside; makes = k .makes }
+    go false q h e = impossible cc
+
+-- a sort below n and an index, of bytes E
+pub record SortSeen (n : ℕ) (E : ℕ → ℕ → List ℕ) (words xs : List ℕ) (t m : ℕ) : Type 0 where
+  pub s : ℕ
+  pub x : ℕ
+  pub right : s < n
+  pub fills : words ≡ s ∷ x ∷ []
+  pub again : E s x ≡ take t xs
+  pub inside : t ≤ length xs
+  pub makes : m ≡ 2
+
+pub core-sort-seen : (xs : List ℕ) (t m : ℕ) → Bytes xs → scanCoreSortIndex xs ≡ Fine t m
+    → SortSeen 5 coresortidx (byte xs 0 ∷ index (drop 1 xs) ∷ []) xs t m
+unfolding scanCoreSortIndex coresortidx
+core-sort-seen xs t m f e = let p = there-fine xs 0 _ t m e in go (ltb (byte xs 0) 5) refl (p .0) (p .1)
+  where
+    go : (b : Bool) → ltb (byte xs 0) 5 ≡ b → 0 < length xs → cond b (past 1 (scanIndex 2 (drop 1 xs))) (Bad Code 0) ≡ Fine t m
+        → SortSeen 5 coresortidx (byte xs 0 ∷ index (drop 1 xs) ∷ []) xs t m
+    go true q h e =
+        let k = behind-one 2 xs t m f h e in
+        record {
+          s = byte xs 0;
+          x = k .x;
+          right = ltb-true _ _ q;
+          fills = ap (λ n. byte xs 0 ∷ n ∷ []) (k .reads);
+          again = k .again;
+          inside = k .inside;
+          makes = k .makes;
+        }
+    go false q h e = impossible cc
+
+pub sort-seen : (xs : List ℕ) (t m : ℕ) → Bytes xs → scanSortIndex xs ≡ Fine t m → SortSeen 6 sortidx (fillSortIndex xs) xs t m
+unfolding scanSortIndex scanModule fillSortIndex sortidx
+sort-seen xs t m f e = let p = there-fine xs 0 _ t m e in go (eqb (byte xs 0) 0) (ltb (byte xs 0) 6) refl refl (p .0) (p .1)
+  where
+    modules : (b : Bool) → 1 < length xs → eqb (byte xs 1) 0x11 ≡ b → byte xs 0 ≡ 0 → cond b (past 2 (scanIndex 2 (drop 2 xs))) (Bad Code 1) ≡ Fine t m
+        → SortSeen 6 sortidx (fillSortIndex xs) xs t m
+    modules true h q z e =
+        let k = behind-two 2 xs 0 0x11 t m f h z (eqb-true _ _ q) e in
+        record {
+          s = 0;
+          x = k .x;
+          right = omega arith;
+          fills = simp z (ap (λ n. 0 ∷ n ∷ []) (k .reads));
+          again = k .again;
+          inside = k .inside;
+          makes = k .makes;
+        }
+    modules false h q z e = impossible cc
+
+    go : (a b : Bool) → eqb (byte xs 0) 0 ≡ a → ltb (byte xs 0) 6 ≡ b → 0 < length xs
+        → cond a (scanModule 2 xs) (cond b (past 1 (scanIndex 2 (drop 1 xs))) (Bad Code 0)) ≡ Fine t m
+        → SortSeen 6 sortidx (fillSortIndex xs) xs t m
+    go true b ha hb h e =
+        let p = there-fine xs 1 _ t m e in
+        modules (eqb (byte xs 1) 0x11) (p .0) refl (eqb-true _ _ ha) (p .1)
+    go false true ha hb h e =
+        let k = behind-one 2 xs t m f h e in
+        record {
+          s = byte xs 0;
+          x = k .x;
+          right = ltb-true _ _ hb;
+          fills = simp ha (ap (λ n. byte xs 0 ∷ n ∷ []) (k .reads));
+          again = simp ha (k .again);
+          inside = k .inside;
+          makes = k .makes;
+        }
+    go false false ha hb h e = impossible cc
 
 -- ---- words that are right are judged so
 

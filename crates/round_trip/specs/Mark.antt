@@ -49,6 +49,9 @@ mark lead g field.OptionalIndex ws = Clear
 mark lead g field.Choice ws = Clear
 mark lead g field.ExternName ws = cond (eqb (slots ws) 0) Clear (asks g 3 0)
 mark lead g field.Reference ws = cond (eqb (word ws 0) 2) (valueMark g (word ws 1) (word ws 2) 1) Clear
+mark lead g field.Argument ws = Clear
+mark lead g field.CoreSortIndex ws = Clear
+mark lead g field.SortIndex ws = Clear
 
 abbrev pub ahead : Mark → ℕ → Mark → Mark
 ahead Clear b r = r

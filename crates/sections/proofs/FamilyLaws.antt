@@ -29,29 +29,26 @@ use Rattle.imports.specs.Write as imports
 use Rattle.imports.specs.Write.{measuredImport, writeImport}
 use Rattle.canonicals.specs.Table.{table, liftShape, lift}
 use Rattle.canonicals.specs.Write.{measuredCanonical, canonicalBytes, writeCanonical}
+use Rattle.instances.specs.Write as instances
+use Rattle.instances.specs.Write.{measuredCoreInstance, measuredInstance, writeCoreInstance, writeInstance}
 use Rattle.sections.specs.declared.Phase.{Phase}
 use Rattle.sections.specs.declared.Section.{Section}
-use Rattle.sections.specs.Section.{measuredFamily, familyBytes, writeFamily}
+use Rattle.sections.specs.Section.{Entries, Types, Canonicals, Imports, CoreInstances, Instances, None, entriesOf, measuredBy, bytesBy, writeBy, measuredFamily, familyBytes, writeFamily}
 use Rattle.sections.specs.Steps.{refuse, wrote}
-use Rattle.fields.specs.Answers as answers
 use Rattle.numbers.proofs.Impossible.{impossible}
 
 pub family-stored : (family : ℕ) (row pool body : List ℕ) (at : ℕ)
     → writeFamily family row pool body at ≡ stored (measuredFamily family row pool) (familyBytes family pool row) body at
-unfolding writeFamily measuredFamily familyBytes writeType measuredType writeCanonical writeImport measuredImport writeRow stored
-family-stored family row pool body at = go (eqb family 7) (eqb family 8) (eqb family 10)
+unfolding writeFamily measuredFamily familyBytes writeType measuredType writeCanonical writeImport measuredImport writeCoreInstance measuredCoreInstance writeInstance measuredInstance writeRow stored
+family-stored family row pool body at = go (entriesOf family)
   where
-    by : {X : Type 0} → Bool → Bool → X → X → X → X
-    by a b t c i = cond a t (cond b c i)
-
-    go : (a b c : Bool)
-        → by a b (writeType row pool body at) (writeCanonical row pool body at) (cond c (writeImport row pool body at) (answers.refuse refusal.Limit 0 body))
-        ≡ stored (by a b (measuredType row pool) (measuredCanonical row pool) (cond c (measuredImport row pool) (Refused refusal.Limit 0)))
-        (by a b (rowBytes (types.shapeOf (word row 0)) pool row) (canonicalBytes pool row) (rowBytes (imports.shapeOf (word row 0)) pool row)) body at
-    go true b c = refl
-    go false true c = refl
-    go false false true = refl
-    go false false false = refl
+    go : (x : Entries) → writeBy x row pool body at ≡ stored (measuredBy x row pool) (bytesBy x pool row) body at
+    go Types = refl
+    go Canonicals = refl
+    go Imports = refl
+    go CoreInstances = refl
+    go Instances = refl
+    go None = refl
 
 -- ---- LIMIT: a row's writer tests for it as the row's step does
 
@@ -73,24 +70,21 @@ row-limited found row pool =
 
 family-limited : (family : ℕ) (row pool : List ℕ)
     → limited row pool (Refused refusal.Limit 0) (measuredFamily family row pool) ≡ measuredFamily family row pool
-unfolding measuredFamily measuredType measuredCanonical measuredImport
-family-limited family row pool = go (eqb family 7) (eqb family 8) (eqb family 10)
+unfolding measuredFamily measuredType measuredCanonical measuredImport measuredCoreInstance measuredInstance
+family-limited family row pool = go (entriesOf family)
   where
-    by : Bool → Bool → Bool → Answer
-    by a b c =
-        cond a (measuredType row pool)
-        (cond b (measuredCanonical row pool) (cond c (measuredImport row pool) (Refused refusal.Limit 0)))
-
     none : (x y : Bool) → cond x (Refused refusal.Limit 0) (cond y (Refused refusal.Limit 0) (Refused refusal.Limit 0)) ≡ Refused refusal.Limit 0
     none true y = refl
     none false true = refl
     none false false = refl
 
-    go : (a b c : Bool) → limited row pool (Refused refusal.Limit 0) (by a b c) ≡ by a b c
-    go true b c = row-limited _ row pool
-    go false true c = row-limited _ row pool
-    go false false true = row-limited _ row pool
-    go false false false = none (ltb 16384 (length row)) (ltb 65536 (length pool))
+    go : (x : Entries) → limited row pool (Refused refusal.Limit 0) (measuredBy x row pool) ≡ measuredBy x row pool
+    go Types = row-limited _ row pool
+    go Canonicals = row-limited _ row pool
+    go Imports = row-limited _ row pool
+    go CoreInstances = row-limited _ row pool
+    go Instances = row-limited _ row pool
+    go None = none (ltb 16384 (length row)) (ltb 65536 (length pool))
 
 pub wrote-limited : (s : Section) (count : ℕ) (phase : Phase) (row pool body : List ℕ)
     → limited row pool (refuse s refusal.Limit body) (wrote s count phase (writeFamily (s .family) row pool body (s .used)))
@@ -142,16 +136,13 @@ canonical-size row pool size e = go (eqb (word row 0) 256) e
 
 pub family-size : (family : ℕ) (row pool : List ℕ) (size : ℕ) → measuredFamily family row pool ≡ Size size
     → size ≡ length (familyBytes family pool row)
-unfolding measuredFamily familyBytes measuredType measuredImport
-family-size family row pool size e = go (eqb family 7) (eqb family 8) (eqb family 10) e
+unfolding measuredFamily familyBytes measuredType measuredImport measuredCoreInstance measuredInstance
+family-size family row pool size e = go (entriesOf family) e
   where
-    go : (a b c : Bool)
-        → cond a (measuredType row pool)
-        (cond b (measuredCanonical row pool) (cond c (measuredImport row pool) (Refused refusal.Limit 0))) ≡ Size size
-        → size
-        ≡ length (cond a (rowBytes (types.shapeOf (word row 0)) pool row)
-        (cond b (canonicalBytes pool row) (rowBytes (imports.shapeOf (word row 0)) pool row)))
-    go true b c e = row-size (types.shapeOf (word row 0)) row pool size e
-    go false true c e = canonical-size row pool size e
-    go false false true e = row-size (imports.shapeOf (word row 0)) row pool size e
-    go false false false e = impossible cc
+    go : (x : Entries) → measuredBy x row pool ≡ Size size → size ≡ length (bytesBy x pool row)
+    go Types e = row-size (types.shapeOf (word row 0)) row pool size e
+    go Canonicals e = canonical-size row pool size e
+    go Imports e = row-size (imports.shapeOf (word row 0)) row pool size e
+    go CoreInstances e = row-size (instances.coreShapeOf (word row 0)) row pool size e
+    go Instances e = row-size (instances.shapeOf (word row 0)) row pool size e
+    go None e = impossible cc

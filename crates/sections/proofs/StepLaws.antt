@@ -3,30 +3,26 @@ use Prim.Native.Nat.{ℕ, _+_, _^_, _≤_, _<_}
 use native.Mathlib.Omega.{arith}
 use mathlib.Core.Path.{_≡_, refl, sym, ap, subst, _∙_}
 use mathlib.Core.Bool.{Bool, true, false, not, cond}
-use mathlib.Core.List.{List, []}
+use mathlib.Core.List.{List}
 use borrow.Author.Tests.{ltb-true, ltb-false, leb-true, eqb-true, not-true, not-false}
 use lib.Dec.{eqb, ltb, leb}
 use lib.ListN.{length}
 use lib.Seq.{sets}
 use Rattle.fields.specs.declared.Answer.{Answer}
 use Rattle.fields.specs.declared.Answer.the-variants.{Size, Refused}
-use Rattle.fields.specs.declared.Refusal.{Refusal}
 use Rattle.fields.specs.declared.Refusal.the-variants as refusal
 use Rattle.fields.specs.declared.Shape.{Shape}
-use Rattle.writing.specs.Row.{writeRow}
 use Rattle.fields.specs.Answers.{Left, left}
 use Rattle.writing.specs.Write.{stored, writeShape}
 use Rattle.fields.specs.Answers as answers
-use Rattle.types.specs.Write.{writeType}
-use Rattle.imports.specs.Write.{writeImport}
-use Rattle.canonicals.specs.Write.{writeCanonical}
 use Rattle.sections.specs.declared.Phase.{Phase}
 use Rattle.sections.specs.declared.Phase.the-variants.{Closed, Opened, Asynced, Parametered}
 use Rattle.sections.specs.declared.Section.{Section}
 use Rattle.sections.specs.declared.Turned.{Turned}
-use Rattle.sections.specs.Section.{knownFamily, opened, holdsAt, holds, sounds, writeFamily}
+use Rattle.sections.specs.Section.{Types, Canonicals, Imports, CoreInstances, Instances, None, known, knownFamily, opened, holdsAt, holds, sounds, writeFamily}
 use Rattle.sections.specs.Steps.{turned, taken, wrote}
 use Rattle.sections.specs.inside.Bounded.{Bounded}
+use Rattle.sections.proofs.FamilyLaws.{family-stored}
 use Rattle.numbers.proofs.Impossible.{impossible}
 
 -- ---- tests
@@ -78,13 +74,18 @@ count-positive s n e o = go (s .phase) (phase-holds s n e) o
 -- its family is a byte
 known-small : (family : ℕ) → knownFamily family ≡ true → family < 256
 unfolding knownFamily
-known-small family e = go (eqb family 7) refl (eqb family 8) refl e
+known-small family e =
+    go (eqb family 7) refl (eqb family 8) refl (eqb family 10) refl (eqb family 2) refl (eqb family 5) refl e
   where
-    go : (a : Bool) → eqb family 7 ≡ a → (b : Bool) → eqb family 8 ≡ b → cond a true (cond b true (eqb family 10)) ≡ true
-        → family < 256
-    go true ea b eb e = omega (arith, eqb-true family 7 ea)
-    go false ea true eb e = omega (arith, eqb-true family 8 eb)
-    go false ea false eb e = omega (arith, eqb-true family 10 e)
+    go : (a : Bool) → eqb family 7 ≡ a → (b : Bool) → eqb family 8 ≡ b → (c : Bool) → eqb family 10 ≡ c → (d : Bool) → eqb family 2 ≡ d
+        → (e : Bool) → eqb family 5 ≡ e
+        → known (cond a Types (cond b Canonicals (cond c Imports (cond d CoreInstances (cond e Instances None))))) ≡ true → family < 256
+    go true p b q c r d s e t k = omega (arith, eqb-true family 7 p)
+    go false p true q c r d s e t k = omega (arith, eqb-true family 8 q)
+    go false p false q true r d s e t k = omega (arith, eqb-true family 10 r)
+    go false p false q false r true s e t k = omega (arith, eqb-true family 2 s)
+    go false p false q false r false s true t k = omega (arith, eqb-true family 5 t)
+    go false p false q false r false s false t k = impossible cc
 
 pub family-small : (s : Section) (n : ℕ) → sounds s n ≡ true → s .family < 256
 family-small s n e = go (s .phase) (phase-holds s n e)
@@ -112,28 +113,13 @@ stored-fits s (Size m) bs out h = go (leb (s .used + m) (length out)) refl
 pub data Writer (s : Section) (out : List ℕ) : Left → Type 0 where
   storing : (a : Answer) (bs : List ℕ) → Writer s out (stored a bs out (s .used))
 
-refusing : (s : Section) (out : List ℕ) (w : Refusal) (n : ℕ) → Writer s out (answers.refuse w n out)
-unfolding stored
-refusing s out w n = storing (Refused w n) []
-
 pub shape-writer : (s : Section) (shape : Shape) (row : List ℕ) (start : ℕ) (pool out : List ℕ)
     → Writer s out (writeShape shape row start pool out (s .used))
 unfolding writeShape
 shape-writer s shape row start pool out = storing _ _
 
 pub family-writer : (s : Section) (row pool out : List ℕ) → Writer s out (writeFamily (s .family) row pool out (s .used))
-unfolding writeFamily writeType writeCanonical writeImport writeRow
-family-writer s row pool out = go (eqb (s .family) 7) (eqb (s .family) 8) (eqb (s .family) 10)
-  where
-    go : (a b c : Bool)
-        → Writer s out
-        (cond a (writeType row pool out (s .used))
-        (cond b (writeCanonical row pool out (s .used))
-        (cond c (writeImport row pool out (s .used)) (answers.refuse refusal.Limit 0 out))))
-    go true b c = storing _ _
-    go false true c = storing _ _
-    go false false true = storing _ _
-    go false false false = refusing s out refusal.Limit 0
+family-writer s row pool out = rw family-stored (storing _ _)
 
 pub written-fits : {s : Section} {out b : List ℕ} {l : Left} {r : Answer} → Writer s out l → left r b ≡ l → length out < 2 ^ 64
     → Bounded s r

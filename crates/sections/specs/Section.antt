@@ -1,7 +1,7 @@
 -- The state of a section, and when it can stand over a body.
 use Prim.Native.Nat.{ℕ}
 use mathlib.Core.Bool.{Bool, true, false, cond}
-use mathlib.Core.List.{List}
+use mathlib.Core.List.{List, []}
 use lib.Dec.{eqb, ltb, leb}
 use Rattle.fields.specs.declared.Answer.{Answer}
 use Rattle.fields.specs.declared.Answer.the-variants.{Refused}
@@ -15,6 +15,8 @@ use Rattle.imports.specs.Write as imports
 use Rattle.imports.specs.Write.{writeImport}
 use Rattle.canonicals.specs.Write as canonicals
 use Rattle.canonicals.specs.Write.{writeCanonical}
+use Rattle.instances.specs.Write as instances
+use Rattle.instances.specs.Write.{writeCoreInstance, writeInstance}
 use Rattle.sections.specs.declared.Phase.{Phase}
 use Rattle.sections.specs.declared.Phase.the-variants.{Closed, Opened, Asynced, Parametered}
 use Rattle.sections.specs.declared.Section.{Section}
@@ -23,9 +25,32 @@ use Rattle.sections.specs.declared.Section.{Section}
 abbrev pub fresh : ℕ → Section
 fresh family = record { family = family; used = 0; count = 0; phase = Closed }
 
--- types, canonicals, imports
+-- what the entries of a section are, by its number in the component binary document, which is its family
+pub data Entries : Type 0 where
+  Types : Entries
+  Canonicals : Entries
+  Imports : Entries
+  CoreInstances : Entries
+  Instances : Entries
+  None : Entries
+
+abbrev pub entriesOf : ℕ → Entries
+entriesOf family =
+    cond (eqb family 7) Types
+    (cond (eqb family 8) Canonicals
+    (cond (eqb family 10) Imports (cond (eqb family 2) CoreInstances (cond (eqb family 5) Instances None))))
+
+-- a family is a section's
+abbrev pub known : Entries → Bool
+known Types = true
+known Canonicals = true
+known Imports = true
+known CoreInstances = true
+known Instances = true
+known None = false
+
 unfoldable pub knownFamily : ℕ → Bool
-knownFamily family = cond (eqb family 7) true (cond (eqb family 8) true (eqb family 10))
+knownFamily family = known (entriesOf family)
 
 abbrev pub opened : Phase → Bool
 opened Closed = false
@@ -48,20 +73,36 @@ unfoldable pub sounds : Section → ℕ → Bool
 sounds s n = cond (ltb n (s .used)) false (holds (s .phase) s)
 
 -- the size of a row of a family, LIMIT where it is no section's; and its bytes
+abbrev pub measuredBy : Entries → List ℕ → List ℕ → Answer
+measuredBy Types row pool = types.measuredType row pool
+measuredBy Canonicals row pool = canonicals.measuredCanonical row pool
+measuredBy Imports row pool = imports.measuredImport row pool
+measuredBy CoreInstances row pool = instances.measuredCoreInstance row pool
+measuredBy Instances row pool = instances.measuredInstance row pool
+measuredBy None row pool = Refused refusal.Limit 0
+
 unfoldable pub measuredFamily : ℕ → List ℕ → List ℕ → Answer
-measuredFamily family row pool =
-    cond (eqb family 7) (types.measuredType row pool)
-    (cond (eqb family 8) (canonicals.measuredCanonical row pool)
-    (cond (eqb family 10) (imports.measuredImport row pool) (Refused refusal.Limit 0)))
+measuredFamily family row pool = measuredBy (entriesOf family) row pool
+
+abbrev pub bytesBy : Entries → List ℕ → List ℕ → List ℕ
+bytesBy Types pool row = rowBytes (types.shapeOf (word row 0)) pool row
+bytesBy Canonicals pool row = canonicals.canonicalBytes pool row
+bytesBy Imports pool row = rowBytes (imports.shapeOf (word row 0)) pool row
+bytesBy CoreInstances pool row = rowBytes (instances.coreShapeOf (word row 0)) pool row
+bytesBy Instances pool row = rowBytes (instances.shapeOf (word row 0)) pool row
+bytesBy None pool row = []
 
 unfoldable pub familyBytes : ℕ → List ℕ → List ℕ → List ℕ
-familyBytes family pool row =
-    cond (eqb family 7) (rowBytes (types.shapeOf (word row 0)) pool row)
-    (cond (eqb family 8) (canonicals.canonicalBytes pool row) (rowBytes (imports.shapeOf (word row 0)) pool row))
+familyBytes family pool row = bytesBy (entriesOf family) pool row
 
 -- a row by the writer of its family
+abbrev pub writeBy : Entries → List ℕ → List ℕ → List ℕ → ℕ → Left
+writeBy Types row pool body at = writeType row pool body at
+writeBy Canonicals row pool body at = writeCanonical row pool body at
+writeBy Imports row pool body at = writeImport row pool body at
+writeBy CoreInstances row pool body at = writeCoreInstance row pool body at
+writeBy Instances row pool body at = writeInstance row pool body at
+writeBy None row pool body at = refuse refusal.Limit 0 body
+
 unfoldable pub writeFamily : ℕ → List ℕ → List ℕ → List ℕ → ℕ → Left
-writeFamily family row pool body at =
-    cond (eqb family 7) (writeType row pool body at)
-    (cond (eqb family 8) (writeCanonical row pool body at)
-    (cond (eqb family 10) (writeImport row pool body at) (refuse refusal.Limit 0 body)))
+writeFamily family row pool body at = writeBy (entriesOf family) row pool body at

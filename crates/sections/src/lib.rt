@@ -27,7 +27,7 @@ pub enum Phase {
 }
 
 pub struct Section {
-    // 7 types, 8 canonicals, 10 imports.
+    // 2 core instances, 5 instances, 7 types, 8 canonicals, 10 imports.
     pub family: u32,
     // How many bytes of the body are written.
     pub used: usize,
@@ -46,29 +46,28 @@ pub struct Turned {
 fn is_known(family: u32) -> bool
     ensures { λ r. ⌜ r ≡ knownFamily family ⌝ }
 {
-    if family == 7 {
-        return true;
+    match family {
+        7 => true,
+        8 => true,
+        10 => true,
+        2 => true,
+        5 => true,
+        _ => false,
     }
-    if family == 8 {
-        return true;
-    }
-    family == 10
 }
 
 // The row written by the writer of its family; LIMIT where the family is no section's.
 pub fn write_by(family: u32, row: &[u32], pool: &[u8], body: &mut [u8], at: usize) -> Answer
     ensures { λ r. ⌜ left r (now (body .exit)) ≡ writeFamily family (now (row .entry)) (now (pool .entry)) (now (body .entry)) at ⌝ }
 {
-    if family == 7 {
-        return types::write(&row[0..], &pool[0..], body, at);
+    match family {
+        7 => types::write(&row[0..], &pool[0..], body, at),
+        8 => canonicals::write(&row[0..], &pool[0..], body, at),
+        10 => imports::write(&row[0..], &pool[0..], body, at),
+        2 => instances::write_core(&row[0..], &pool[0..], body, at),
+        5 => instances::write(&row[0..], &pool[0..], body, at),
+        _ => Answer::Refused(Refusal::Limit, 0),
     }
-    if family == 8 {
-        return canonicals::write(&row[0..], &pool[0..], body, at);
-    }
-    if family == 10 {
-        return imports::write(&row[0..], &pool[0..], body, at);
-    }
-    Answer::Refused(Refusal::Limit, 0)
 }
 
 impl Phase {

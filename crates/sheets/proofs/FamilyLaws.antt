@@ -9,7 +9,7 @@ use borrow.Author.Tests.{leb-true, le-leb}
 use lib.Dec.{eqb, leb}
 use lib.ListN.{length, drop, length-append}
 use lib.Seq.{sets}
-use Rattle.fields.specs.declared.Answer.the-variants.{Size, Refused}
+use Rattle.fields.specs.declared.Answer.the-variants.{Size}
 use Rattle.fields.specs.declared.Found.the-variants.{Is}
 use Rattle.fields.specs.declared.Leaf.the-variants.{Fine}
 use Rattle.fields.specs.declared.Shape.{Shape}
@@ -35,9 +35,10 @@ use Rattle.imports.specs.Write.{measuredImport}
 use Rattle.canonicals.specs.Table as canonicals
 use Rattle.canonicals.specs.Table.{liftShape}
 use Rattle.canonicals.specs.Write.{measuredCanonical}
-use Rattle.sections.specs.Section.{writeFamily, measuredFamily, familyBytes}
+use Rattle.instances.specs.Table as instances
+use Rattle.instances.specs.Write.{measuredCoreInstance, measuredInstance}
+use Rattle.sections.specs.Section.{Entries, Types, Canonicals, Imports, CoreInstances, Instances, None, entriesOf, measuredBy, writeFamily, measuredFamily, familyBytes}
 use Rattle.sections.proofs.FamilyLaws.{family-stored, family-size}
-use Rattle.fields.specs.declared.Refusal.the-variants as refusal
 use Rattle.numbers.proofs.Impossible.{impossible}
 
 pub record Taken (row bs : List ℕ) (size : ℕ) : Type 0 where
@@ -98,18 +99,17 @@ canonical-bound row pool size e = go (eqb (word row 0) 256) e
     go false e = table-bound canonicals.table refl row pool size e
 
 pub family-row : (family : ℕ) (row pool : List ℕ) (size : ℕ) → measuredFamily family row pool ≡ Size size → Taken row (familyBytes family pool row) size
-unfolding measuredFamily measuredType measuredImport every widths wide
+unfolding measuredFamily measuredType measuredImport measuredCoreInstance measuredInstance every widths wide
 family-row family row pool size e =
-    record { long = family-size family row pool size e; bound = go (eqb family 7) (eqb family 8) (eqb family 10) e }
+    record { long = family-size family row pool size e; bound = go (entriesOf family) e }
   where
-    go : (a b c : Bool)
-        → cond a (measuredType row pool)
-        (cond b (measuredCanonical row pool) (cond c (measuredImport row pool) (Refused refusal.Limit 0))) ≡ Size size
-        → size ≤ 32772 * length row
-    go true b c e = table-bound types.table refl row pool size e
-    go false true c e = canonical-bound row pool size e
-    go false false true e = table-bound imports.table refl row pool size e
-    go false false false e = impossible cc
+    go : (x : Entries) → measuredBy x row pool ≡ Size size → size ≤ 32772 * length row
+    go Types e = table-bound types.table refl row pool size e
+    go Canonicals e = canonical-bound row pool size e
+    go Imports e = table-bound imports.table refl row pool size e
+    go CoreInstances e = table-bound instances.coreTable refl row pool size e
+    go Instances e = table-bound instances.table refl row pool size e
+    go None e = impossible cc
 
 -- ---- writing
 

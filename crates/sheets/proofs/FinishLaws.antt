@@ -22,7 +22,7 @@ use Rattle.fields.specs.declared.Leaf.{Leaf}
 use Rattle.fields.specs.declared.Leaf.the-variants.{Fine, Bad}
 use Rattle.fields.specs.Words.{word}
 use Rattle.fields.specs.Answers as leaves
-use Rattle.sections.specs.Section.{knownFamily, sounds}
+use Rattle.sections.specs.Section.{entriesOf, known, knownFamily, sounds}
 use Rattle.sections.specs.Finish.{framing, finishing}
 use Rattle.sections.proofs.FrameLaws.{frame-size, frame-fits}
 use Rattle.sheets.specs.Frame.{Rows, Are, Broken, words, poolLength, poolOf, framed, listed}
@@ -36,12 +36,17 @@ use Rattle.numbers.proofs.Impossible.{impossible}
 -- every kind has a section's family
 family-known : (kind : ℕ) → knownFamily (familyOf kind) ≡ true
 unfolding knownFamily familyOf
-family-known kind = go (leb 256 kind) (eqb kind 17)
+family-known kind = go (leb 256 kind) (eqb kind 17) (eqb kind 18) (eqb kind 19) (eqb kind 20) (eqb kind 21)
   where
-    go : (a b : Bool) → let f : ℕ = cond a 8 (cond b 10 7) in cond (eqb f 7) true (cond (eqb f 8) true (eqb f 10)) ≡ true
-    go true b = refl
-    go false true = refl
-    go false false = refl
+    go : (a b c d e f : Bool)
+        → known (entriesOf (cond a 8 (cond b 10 (cond c 2 (cond d 5 (cond e 2 (cond f 5 7))))))) ≡ true
+    go true b c d e f = refl
+    go false true c d e f = refl
+    go false false true d e f = refl
+    go false false false true e f = refl
+    go false false false false true f = refl
+    go false false false false false true = refl
+    go false false false false false false = refl
 
 -- rows of which there is one
 rows-are : (r : Rows) (row : List ℕ) (later : List (List ℕ)) → listed r ≡ row ∷ later → (pool body out : List ℕ)

@@ -30,9 +30,12 @@ left r body out = record { answer = r; body = body; out = out }
 abbrev pub refuse : Refusal → ℕ → List ℕ → List ℕ → Left
 refuse w n body out = left (Refused w n) body out
 
--- the first row sets the family
+-- the first row sets the family, by its kind: canonicals, imports, core instances (18 and 20), instances (19 and 21), else types
 unfoldable pub familyOf : ℕ → ℕ
-familyOf kind = cond (leb 256 kind) 8 (cond (eqb kind 17) 10 7)
+familyOf kind =
+    cond (leb 256 kind) 8
+    (cond (eqb kind 17) 10
+    (cond (eqb kind 18) 2 (cond (eqb kind 19) 5 (cond (eqb kind 20) 2 (cond (eqb kind 21) 5 7)))))
 
 -- a row's answer, with `used` of `room` bytes taken and r rows before it
 abbrev pub tried : Answer → ℕ → ℕ → ℕ → (ℕ → Leaf) → Leaf

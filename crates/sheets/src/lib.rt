@@ -15,7 +15,7 @@ ghost use Rattle.fields.specs.Answers as leaves;
 ghost use Rattle.sheets.specs.Frame.{number, words, framed, poolOf};
 ghost use Rattle.sections.specs.Section.{measuredFamily, familyBytes};
 ghost use Rattle.sections.specs.Finish.{finishing};
-ghost use Rattle.sheets.specs.Sheet.{left, tries, joined, ofRows, sheeted};
+ghost use Rattle.sheets.specs.Sheet.{left, familyOf, tries, joined, ofRows, sheeted};
 ghost use Rattle.sheets.specs.inside.Steps.{rest, whole, Framed, RowsAt, Starts, firstFamily, rowsIn, InRows, Fits, Passed, Makes, SheetWords, wordsLeft, sectionSize, closed};
 ghost use Rattle.fields.specs.Limits.{sheetBytes};
 
@@ -88,6 +88,23 @@ fn rows_of(input: &[u8]) -> Framing
     Framing::Broken
 }
 
+// The family of a kind: types where it is no other section's.
+fn family_of(kind: u32) -> u32
+    ensures { λ r. ⌜ r ≡ familyOf kind ⌝ }
+{
+    if 256 <= kind {
+        return 8;
+    }
+    match kind {
+        17 => 10,
+        18 => 2,
+        19 => 5,
+        20 => 2,
+        21 => 5,
+        _ => 7,
+    }
+}
+
 // The family that a first row at `start` sets: that of its kind.
 fn family_at(input: &[u8], start: usize) -> u32
     requires { ⌜ Framed (now input) start ⌝ }
@@ -97,30 +114,21 @@ fn family_at(input: &[u8], start: usize) -> u32
     if number_at(input, start) == 0 {
         return 7;
     }
-    let kind = number_at(input, start + 4);
-    if 256 <= kind {
-        return 8;
-    }
-    if kind == 17 {
-        return 10;
-    }
-    7
+    family_of(number_at(input, start + 4))
 }
 
 // The size of a row of a family, or why it is refused, room apart.
 fn measure_by(family: u32, row: &[u32], pool: &[u8]) -> Answer
     ensures { λ r. ⌜ r ≡ measuredFamily family (now (row .entry)) (now (pool .entry)) ⌝ }
 {
-    if family == 7 {
-        return types::measure(row, pool);
+    match family {
+        7 => types::measure(row, pool),
+        8 => canonicals::measure(row, pool),
+        10 => imports::measure(row, pool),
+        2 => instances::measure_core(row, pool),
+        5 => instances::measure(row, pool),
+        _ => Answer::Refused(Refusal::Limit, 0),
     }
-    if family == 8 {
-        return canonicals::measure(row, pool);
-    }
-    if family == 10 {
-        return imports::measure(row, pool);
-    }
-    Answer::Refused(Refusal::Limit, 0)
 }
 
 // All rows of the words tried in order: how many they are and the bytes they take, or the first that is refused.

@@ -6,7 +6,7 @@
 //   pool-size N    the pool is N bytes `a`
 //   room N         the buffer that is lent has N bytes
 //   at N           the place in it
-//   row W W ..     the row of those words goes to the writer of its kind: 17 imports, 256 and above canonicals, else types
+//   row W W ..     the row of those words goes to the writer of its kind: 17 imports, 18 to 21 instances, 256 and above canonicals, else types
 //   long KIND N    so does a row of N words, all 0 after the first
 // A row's answer is a line, `ok SIZE BYTES` or `refused NUMBER VALUE NAME`; it ends in ` changed` where a byte that the answer does
 // not count is not as it was. What is none of these, or passes the program's own buffers, is a line that begins with `?`.
@@ -58,13 +58,17 @@ fn say_written(size: usize, old: &[u8], out: &[u8], at: usize) {
 // The row given to the writer of its kind.
 fn write(row: &[u32], pool: &[u8], out: &mut [u8], at: usize) -> Answer {
     let kind = fields::kind_of(row);
-    if kind == 17 {
-        return imports::write(row, pool, out, at);
+    if 256 <= kind {
+        return canonicals::write(row, pool, out, at);
     }
-    if kind < 256 {
-        return types::write(row, pool, out, at);
+    match kind {
+        17 => imports::write(row, pool, out, at),
+        18 => instances::write_core(row, pool, out, at),
+        19 => instances::write(row, pool, out, at),
+        20 => instances::write_core(row, pool, out, at),
+        21 => instances::write(row, pool, out, at),
+        _ => types::write(row, pool, out, at),
     }
-    canonicals::write(row, pool, out, at)
 }
 
 fn try_row(row: &[u32], pool: &[u8], out: &mut [u8], at: usize) {

@@ -2,10 +2,9 @@
 use Prim.Native.Nat.{ℕ, _+_, _*_, _≤_, _<_}
 use native.Mathlib.Omega.{arith}
 use mathlib.Core.Path.{_≡_, refl, sym, ap, _∙_, subst}
-use mathlib.Core.Bool.{Bool, true, false, cond}
+use mathlib.Core.Bool.{true, false}
 use mathlib.Core.List.{List, [], _∷_, _++_, append-nil}
 use borrow.Author.Tests.{ne-eqb}
-use lib.Dec.{eqb}
 use lib.ListN.{length, drop, length-append}
 use lib.Seq.{sets}
 use Rattle.numbers.specs.Leb.{unsigned}
@@ -15,16 +14,16 @@ use Rattle.fields.specs.declared.Field.the-variants as field
 use Rattle.fields.specs.declared.Found.{Found}
 use Rattle.fields.specs.declared.Found.the-variants.{Is, Not}
 use Rattle.fields.specs.declared.Refusal.the-variants.{Room}
-use Rattle.fields.specs.declared.Shape.{Shape}
 use Rattle.fields.specs.Words.{word, wide}
 use Rattle.writing.specs.Binary.{primvaltype, valtype, optional, resultlist, functype, representation, destructor, bytes}
 use Rattle.writing.specs.Row.{measuredRow, rowBytes, writeRow}
 use Rattle.fields.specs.Shape.{repeated, widths}
-use Rattle.fields.specs.Table.{Line, shapeIn, productionIn, twoOf, elements}
+use Rattle.fields.specs.Table.{shapeIn, twoOf, elements}
 use Rattle.fields.specs.Answers.{Left, left}
 use Rattle.fields.proofs.NearLaws.{first-word, second-word}
 use Rattle.writing.proofs.TableLaws.{strings}
-use Rattle.writing.proofs.WholeLaws.{accepted}
+use Rattle.writing.proofs.KindLaws as kinds
+use Rattle.writing.proofs.KindLaws.{sized-fits, Begin}
 use Rattle.types.specs.Table.{two, many, labelvaltype, table}
 use Rattle.types.specs.Write.{shapeOf, measuredType}
 use Rattle.types.specs.inside.Function.{functionShape, functionBytes}
@@ -32,8 +31,7 @@ use Rattle.types.proofs.Rows.{type-row}
 use Rattle.writing.specs.Sizes.{within}
 use Rattle.writing.specs.inside.Rows.{Rights, Fits, Tried}
 use Rattle.writing.proofs.GroupLaws.{labelled-element}
-use Rattle.writing.proofs.RowLaws.{PairHeld, lead-held, bare-held, CountedHeld, counted-held, ManyHeld, many-held, within-fits, within-not, room-answer, tried-some}
-use Rattle.numbers.proofs.Impossible.{impossible}
+use Rattle.writing.proofs.RowLaws.{PairHeld, lead-held, bare-held, CountedHeld, counted-held, ManyHeld, many-held, within-fits, tried-some}
 
 -- ---- a line of the table for each kind, and none for any other
 
@@ -135,20 +133,15 @@ kind-other (((((((((((((((((b, n0), n1), n2), n3), n4), n5), n6), n7), n8), n9),
 
 module _ {i j k : ℕ} {found : Found} (e : shapeOf k ≡ found) (f : i ≡ j) (h : i ≡ k) where
   pub as-kind : shapeOf j ≡ found
-  as-kind = ap shapeOf (sym f ∙ h) ∙ e
+  as-kind = kinds.as-kind table e f h
 
   pub measured-as : (row pool : List ℕ) {r : ℕ} → measuredRow found row pool ≡ Size r → measuredRow (shapeOf j) row pool ≡ Size r
-  measured-as row pool m = ap (λ s. measuredRow s row pool) as-kind ∙ m
+  measured-as = kinds.measured-as table e f h
 
   pub tried-as : {row pool old new : List ℕ} {at r : ℕ} → Tried found row pool old at r new → Tried (shapeOf j) row pool old at r new
   tried-as {row} {pool} {old} {new} {at} {r} t = subst (λ s. Tried s row pool old at r new) (sym as-kind) t
 
--- a size that was found, and room for it
-pub sized-fits : {found : Found} {row pool : List ℕ} {at room size : ℕ} → (0 < size → measuredRow found row pool ≡ Size size)
-    → within size at room ≡ true → Fits found row pool at room
-sized-fits {found} {row} {pool} {at} {room} {size} m e =
-    let h = within-fits size at room e in record { size = size; measured = m (h .0); ends = h .1 }
-
+-- a size that was found, and what was put where there is room for it
 pub sized-tried : {found : Found} {row pool old new : List ℕ} {at size : ℕ} → (0 < size → measuredRow found row pool ≡ Size size)
     → within size at (length old) ≡ true → (Fits found row pool at (length old) → new ≡ sets old at (rowBytes found pool row))
     → Tried found row pool old at size new
@@ -160,13 +153,6 @@ sized-tried {found} {row} {pool} {old} {new} {at} {size} m e p =
 pub tried-not : {found : Found} {row pool old mid : List ℕ} {at r : ℕ} → Tried found row pool old at r mid → r ≡ 0
     → {x : Left} → x ≡ writeRow found row pool mid at → x ≡ writeRow found row pool old at
 tried-not {found} {row} {pool} {old} {mid} {at} t z e = e ∙ ap (λ l. writeRow found row pool l at) (t .none z)
-
-pub put-as : (old : List ℕ) (to : ℕ) {new a b : List ℕ} → a ≡ b → new ≡ sets old to a → new ≡ sets old to b
-put-as old to e p = p ∙ ap (λ l. sets old to l) e
-
-pub put-not : {found : Found} → found ≡ Not → (row pool old : List ℕ) (to : ℕ) → old ≡ sets old to (rowBytes found pool row)
-unfolding rowBytes
-put-not e row pool old to = ap (λ f. sets old to (rowBytes f pool row)) (sym e)
 
 -- ---- rows that fit: what a put asks, and that what it puts are the row's bytes
 
@@ -353,41 +339,10 @@ module _ {found : Found} {row pool : List ℕ} {to room : ℕ} (e : found ≡ Is
 
 -- ---- every row has bytes: each production begins with one
 
-abbrev Some : List ℕ → Type 0
-Some [] = ⊥
-Some (x ∷ l) = Unit {0}
-
-some-length : (l : List ℕ) → Some l → 0 < length l
-some-length [] h = absurd h
-some-length (x ∷ l) h = omega arith
-
-abbrev Begin : List Line → List ℕ → List ℕ → Type 0
-Begin [] pool ws = Unit {0}
-Begin (l ∷ ls) pool ws = Some (l .production pool ws) × Begin ls pool ws
-
-begins-in : (ls : List Line) (pool ws : List ℕ) → Begin ls pool ws → (k : ℕ) (s : Shape) → shapeIn ls k ≡ Is s → Some (productionIn ls k pool ws)
-unfolding shapeIn productionIn
-begins-in [] pool ws a k s f = impossible cc
-begins-in (l ∷ ls) pool ws a k s f = go (eqb k (l .kind)) f (begins-in ls pool ws (a .1) k s)
-  where
-    go : (b : Bool) → cond b (Is (l .shape)) (shapeIn ls k) ≡ Is s → (shapeIn ls k ≡ Is s → Some (productionIn ls k pool ws))
-        → Some (cond b (l .production pool ws) (productionIn ls k pool ws))
-    go true f ih = a .0
-    go false f ih = ih f
-
 types-begin : (pool ws : List ℕ) → Begin table pool ws
 types-begin pool ws = (tt, (tt, (tt, (tt, (tt, (tt, (tt, (tt, (tt, (tt, (tt, (tt, (tt, (tt, (tt, (tt, (tt, tt)))))))))))))))))
 
-pub some-bytes : (row pool : List ℕ) {n : ℕ} → measuredRow (shapeOf (word row 0)) row pool ≡ Size n → 0 < n
-unfolding measuredType
-some-bytes row pool {n} e =
-    let r = type-row row pool n e in
-    let a = accepted (shapeOf (word row 0)) row pool n e in
-    let ws = drop 1 row in
-    let h = begins-in table pool ws (types-begin pool ws) (word row 0) (a .shape) (a .is) in
-    omega (arith, r .size-is-length, ap length (r .as-production), some-length (productionIn table (word row 0) pool ws) h)
-
 pub no-room : (row pool out : List ℕ) (at : ℕ) {n : ℕ} → measuredRow (shapeOf (word row 0)) row pool ≡ Size n → within n at (length out) ≡ false
     → left (Refused Room n) out ≡ writeRow (shapeOf (word row 0)) row pool out at
-no-room row pool out at {n} e w =
-    room-answer (shapeOf (word row 0)) row pool e out at (within-not n at (length out) w (some-bytes row pool e))
+unfolding measuredType
+no-room row pool out at {n} e w = kinds.no-room {ls = table} (types-begin pool (drop 1 row)) e (type-row row pool n e) out at w

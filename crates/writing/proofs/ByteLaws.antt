@@ -15,9 +15,9 @@ use Rattle.fields.specs.declared.Field.{Field}
 use Rattle.fields.specs.declared.Field.the-variants as field
 use Rattle.fields.specs.declared.Flaw.the-variants.{Right}
 use Rattle.fields.specs.Words.{word, Words, chars, indexed}
-use Rattle.writing.specs.Binary.{name, primvaltype, valtype, optional, resultlist, functype, flag, representation, destructor, canonopt, slotAt, slotsAt, slots, externname, typebound, externdesc, bytes}
+use Rattle.writing.specs.Binary.{name, primvaltype, valtype, optional, resultlist, functype, flag, representation, destructor, canonopt, slotAt, slotsAt, slots, externname, typebound, externdesc, bytes, argument, coresortidx, sortidx}
 use Rattle.writing.specs.Judge.{flaw}
-use Rattle.writing.proofs.FlawLaws.{choice-below, reference-below}
+use Rattle.writing.proofs.FlawLaws.{choice-below, reference-below, below-is}
 
 -- ---- lists of bytes
 
@@ -80,6 +80,9 @@ Byte field.OptionalIndex = Unit {0}
 Byte field.Choice = Unit {0}
 Byte field.ExternName = Unit {0}
 Byte field.Reference = Unit {0}
+Byte field.Argument = Unit {0}
+Byte field.CoreSortIndex = Unit {0}
+Byte field.SortIndex = Unit {0}
 
 pub flag-small : (a : ℕ) → flag a ≤ 1
 unfolding flag
@@ -125,14 +128,14 @@ module _ (pool : List ℕ) (fp : ByteList pool) (ws : List ℕ) (fw : Words ws) 
   reference-bytes : word ws 0 < 6 → ByteList (externdesc (word ws 0) (word ws 1) (word ws 2))
   unfolding externdesc typebound
   reference-bytes h =
-      cond-bytes (eqb (word ws 0) 0) (some (omega arith) (some (omega arith) (index-bytes 1)))
+      cond-bytes (eqb (word ws 0) 0) (some {b = 0x00} (omega arith) (some {b = 0x11} (omega arith) (index-bytes 1)))
       (cond-bytes (eqb (word ws 0) 2) (some (omega arith) (value-bytes 1 2))
       (cond-bytes (eqb (word ws 0) 3)
       (some (omega arith) (cond-bytes (eqb (word ws 1) 0) (some (omega arith) (index-bytes 2)) (some (omega arith) none)))
       (some (omega arith) (index-bytes 1))))
 
   pub field-bytes : (f : Field) → Byte f → flaw pool f ws ≡ Right → ByteList (bytes pool f ws)
-  unfolding bytes flaw resultlist functype flag representation destructor canonopt
+  unfolding bytes flaw resultlist functype flag representation destructor canonopt argument coresortidx sortidx
   field-bytes field.Nothing b e = none
   field-bytes (field.Fixed x) b e = some b none
   field-bytes field.Primitive b e = some (prim-byte (word ws 0)) none
@@ -151,3 +154,8 @@ module _ (pool : List ℕ) (fp : ByteList pool) (ws : List ℕ) (fw : Words ws) 
       some {b = word ws 0} (omega (arith, choice-below ws e)) (cond-bytes (indexed (word ws 0)) (index-bytes 1) none)
   field-bytes field.ExternName b e = extern-bytes
   field-bytes field.Reference b e = reference-bytes (reference-below ws e)
+  field-bytes field.Argument b e = some {b = 0x12} (omega arith) (index-bytes 0)
+  field-bytes field.CoreSortIndex b e = some {b = word ws 0} (omega (arith, below-is 5 ws 0 e)) (index-bytes 1)
+  field-bytes field.SortIndex b e =
+      cond-bytes (eqb (word ws 0) 0) (some {b = 0x00} (omega arith) (some {b = 0x11} (omega arith) (index-bytes 1)))
+      (some {b = word ws 0} (omega (arith, below-is 6 ws 0 e)) (index-bytes 1))

@@ -1,7 +1,7 @@
 -- What words that are right are, and where the first that is not stands.
 use Prim.Native.Nat.{ℕ, _+_, _≤_, _<_}
 use native.Mathlib.Omega.{arith}
-use mathlib.Core.Path.{_≡_, refl, sym, ap, _∙_}
+use mathlib.Core.Path.{_≡_, refl, _∙_}
 use mathlib.Core.Bool.{Bool, true, false, cond}
 use mathlib.Core.List.{List}
 use lib.Dec.{eqb, ltb, leb}
@@ -16,7 +16,16 @@ use Rattle.fields.specs.declared.Flaw.{Flaw}
 use Rattle.fields.specs.declared.Flaw.the-variants.{Right, Wrong}
 use Rattle.fields.specs.Words.{word, chars, indexed}
 use Rattle.writing.specs.Judge.{then, below, unused, value, optionalValue, named, optionalIndex, choice, optionalName, reference, flaw}
+use Rattle.writing.specs.inside.Extern.{optionWords, SlotInside, ExternInside}
 use Rattle.numbers.proofs.Impossible.{impossible}
+
+-- a word that is judged below n is
+pub below-is : (n : ℕ) (ws : List ℕ) (i : ℕ) → below n ws i ≡ Right → word ws i < n
+below-is n ws i e = go (ltb (word ws i) n) refl e
+  where
+    go : (b : Bool) → ltb (word ws i) n ≡ b → cond b Right (Wrong Tag i) ≡ Right → word ws i < n
+    go true t e = ltb-true _ _ t
+    go false t e = impossible cc
 
 -- a flaw stands at one of the field's words
 abbrev pub Placed : Flaw → Type 0
@@ -106,6 +115,9 @@ flaw-near pool field.ExternName ws =
     (first (optional-name-near pool ws 2 (omega arith))
     (first (optional-name-near pool ws 5 (omega arith)) (optional-name-near pool ws 8 (omega arith))))
 flaw-near pool field.Reference ws = reference-near ws
+flaw-near pool field.Argument ws = right
+flaw-near pool field.CoreSortIndex ws = below-near 5 ws 0 (omega arith)
+flaw-near pool field.SortIndex ws = below-near 6 ws 0 (omega arith)
 
 pub flaw-place : (pool : List ℕ) (f : Field) (ws : List ℕ) → Placed (flaw pool f ws)
 flaw-place pool f ws = placed (flaw-near pool f ws)
@@ -133,8 +145,7 @@ pub name-text : (pool ws : List ℕ) (i : ℕ) → named pool ws i ≡ Right →
 name-text pool ws i e = name-right pool ws i e .1
 
 -- so does the name of an option that is there
-pub slot-inside : (pool ws : List ℕ) (i : ℕ) → optionalName pool ws i ≡ Right → (word ws i ≡ 0 → ⊥)
-    → word ws (i + 1) + word ws (i + 2) ≤ length pool
+slot-inside : (pool ws : List ℕ) (i : ℕ) → optionalName pool ws i ≡ Right → SlotInside pool ws i
 unfolding optionalName
 slot-inside pool ws i e n =
     let s : i + 2 ≡ i + 1 + 1 = omega arith in
@@ -154,6 +165,16 @@ extern-right pool ws e =
     let b = then-right (optionalName pool ws 2) _ (a .1) in
     let c = then-right (optionalName pool ws 5) _ (b .1) in
     record { itself = a .0; implements = b .0; suffix = c .0; id = c .1 }
+
+pub extern-inside : (pool ws : List ℕ) → flaw pool field.ExternName ws ≡ Right → ExternInside pool ws
+extern-inside pool ws e =
+    let r = extern-right pool ws e in
+    record {
+      itself = name-inside pool ws 0 (r .itself);
+      implements = slot-inside pool ws 2 (r .implements);
+      suffix = slot-inside pool ws 5 (r .suffix);
+      id = slot-inside pool ws 8 (r .id);
+    }
 
 pub choice-below : (ws : List ℕ) → choice ws ≡ Right → word ws 0 < 10
 unfolding choice
@@ -175,11 +196,10 @@ slot-absent : (pool ws : List ℕ) (i : ℕ) → word ws i ≡ 0 → word ws (i 
 unfolding optionalName
 slot-absent pool ws i a b c = simp (eq-eqb _ _ a, eq-eqb _ _ b, eq-eqb _ _ c)
 
--- the words of the options add up to 0
-pub options-absent : (pool ws : List ℕ) (a b c : ℕ) → a ≡ word ws 2 + word ws 3 + word ws 4 → b ≡ word ws 5 + word ws 6 + word ws 7
-    → c ≡ word ws 8 + word ws 9 + word ws 10 → a + b + c ≡ 0
-    → then (optionalName pool ws 2) (then (optionalName pool ws 5) (optionalName pool ws 8)) ≡ Right
-options-absent pool ws a b c ea eb ec e =
+-- the words of the options add up to 0: the name decides
+pub plain-flaw : (pool ws : List ℕ) → optionWords ws ≡ 0 → flaw pool field.ExternName ws ≡ named pool ws 0
+unfolding flaw
+plain-flaw pool ws e =
     let x2 : word ws 2 ≡ 0 = omega arith in
     let x3 : word ws 3 ≡ 0 = omega arith in
     let x4 : word ws 4 ≡ 0 = omega arith in
@@ -189,12 +209,7 @@ options-absent pool ws a b c ea eb ec e =
     let x8 : word ws 8 ≡ 0 = omega arith in
     let x9 : word ws 9 ≡ 0 = omega arith in
     let x10 : word ws 10 ≡ 0 = omega arith in
-    rw (slot-absent pool ws 2 x2 x3 x4, slot-absent pool ws 5 x5 x6 x7, slot-absent pool ws 8 x8 x9 x10)
-
-pub plain-flaw : (pool ws : List ℕ) (x : Flaw) → x ≡ named pool ws 0
-    → then (optionalName pool ws 2) (then (optionalName pool ws 5) (optionalName pool ws 8)) ≡ Right → x ≡ flaw pool field.ExternName ws
-unfolding flaw
-plain-flaw pool ws x ex e = ex ∙ sym (ap (λ y. then (named pool ws 0) y) e ∙ same (named pool ws 0))
+    rw (slot-absent pool ws 2 x2 x3 x4, slot-absent pool ws 5 x5 x6 x7, slot-absent pool ws 8 x8 x9 x10) (same (named pool ws 0))
   where
     same : (x : Flaw) → then x Right ≡ x
     same Right = refl

@@ -5,10 +5,11 @@ use native.Mathlib.Omega.{arith}
 use mathlib.Core.Path.{_≡_, refl, sym, ap, _∙_, subst}
 use mathlib.Core.List.{List, [], _∷_, _++_, append-nil}
 use lib.ListN.{length, drop, set, length-append}
-use lib.Seq.{sets, drop-drop, getD-drop}
+use lib.Seq.{sets, length-sets, drop-drop, getD-drop}
 use Rattle.numbers.specs.Bytes as stored
 use Rattle.numbers.specs.Bytes.{store, partOf}
 use Rattle.numbers.specs.Leb.{unsigned}
+use Rattle.numbers.specs.Numbers.{valueOf}
 use Rattle.numbers.specs.declared.bytes.Stored.{Stored}
 use Rattle.numbers.proofs.BytesLaws.{sets-append, store-fits, part-inside}
 use Rattle.fields.specs.declared.Field.{Field}
@@ -22,7 +23,7 @@ use Rattle.fields.specs.Table.{elements}
 use Rattle.writing.proofs.FlawLaws.{name-inside}
 use Rattle.fields.proofs.NearLaws.{first-word, second-word}
 use Rattle.writing.proofs.TableLaws.{strings}
-use Rattle.writing.proofs.WroteLaws.{then-byte, same-size}
+use Rattle.writing.proofs.WroteLaws.{then, then-byte, same-size, of-store}
 use Rattle.writing.specs.inside.Rows.{Rights, Groups}
 use Rattle.writing.proofs.RowLaws.{rights-first, rights-rest, rights-join}
 
@@ -210,3 +211,35 @@ bytes-wrote l i x y = record { place = refl; content = then-byte (byte-wrote l i
 pub number-wrote : {old new a : List ℕ} {i : ℕ} {q : Stored} → stored.left q new ≡ store a i old → i + length a ≤ length old
     → Wrote old i a (i + length a) new
 number-wrote {old} {new} {a} {i} e h = record { place = refl; content = ap (λ (y : stored.Left). y .buffer) (e ∙ store-fits a i old h) }
+
+module _ (old : List ℕ) (to a : ℕ) (l : List ℕ) {all : List ℕ} (e : all ≡ a ∷ l) (room : to + length all ≤ length old) where
+  inside : to + 1 + length l ≤ length (set old to a)
+  inside = omega (arith, ap length e, same-size (byte-wrote old to a))
+
+  -- a byte and what was stored behind it
+  pub byte-then : {q : Stored} {new : List ℕ} → stored.left q new ≡ store l (to + 1) (set old to a) → new ≡ sets old to all
+  byte-then h = then-byte (byte-wrote old to a) (number-wrote h inside) .content ∙ ap (λ v. sets old to v) (sym e)
+
+  pub byte-stored : {q : Stored} {s : ℕ} {new : List ℕ} → stored.left q new ≡ store l (to + 1) (set old to a) → s ≡ valueOf q
+      → Wrote old to all (to + 1 + s) new
+  byte-stored {q} {s} {new} h v =
+      subst (λ b. Wrote old to b (to + 1 + s) new) (sym e) (then-byte (byte-wrote old to a) (of-store h v inside))
+
+-- a byte and a name of the pool
+pub byte-named : (old : List ℕ) (to a : ℕ) (pool : List ℕ) (start size : ℕ) → start + size ≤ length pool
+    → to + 1 + length (name pool start size) ≤ length old → {q : Stored} {s : ℕ} {new : List ℕ}
+    → stored.left q new ≡ store (unsigned size ++ partOf pool start size) (to + 1) (set old to a) → s ≡ valueOf q
+    → Wrote old to (a ∷ name pool start size) (to + 1 + s) new
+byte-named old to a pool start size h room d v =
+    byte-stored old to a (name pool start size) refl (omega arith)
+    (d ∙ ap (λ l. store l (to + 1) (set old to a)) (part-name pool start size h)) v
+
+module _ (old : List ℕ) (to a b : ℕ) (l : List ℕ) {all : List ℕ} (e : all ≡ a ∷ b ∷ l) (room : to + length all ≤ length old) where
+  within : to + 2 + length l ≤ length (set (set old to a) (to + 1) b)
+  within = omega (arith, ap length e, same-size (bytes-wrote old to a b))
+
+  pub bytes-then : {q : Stored} {new : List ℕ} → stored.left q new ≡ store l (to + 2) (set (set old to a) (to + 1) b) → new ≡ sets old to all
+  bytes-then h = then (bytes-wrote old to a b) (number-wrote h within) .content ∙ ap (λ v. sets old to v) (sym e)
+
+pub sets-size : (old : List ℕ) (to : ℕ) (all : List ℕ) {new : List ℕ} → new ≡ sets old to all → length new ≡ length old
+sets-size old to all e = ap length e ∙ length-sets old to all

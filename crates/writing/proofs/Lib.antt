@@ -1,8 +1,11 @@
 pub mod AnswerLaws
 pub mod ByteLaws
+pub mod ElementLaws
+pub mod ExternLaws
 pub mod FlawLaws
 pub mod GroupLaws
 pub mod JudgedLaws
+pub mod KindLaws
 pub mod LeafLaws
 pub mod OrderLaws
 pub mod ProductionLaws

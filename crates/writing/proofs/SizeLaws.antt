@@ -15,10 +15,11 @@ use Rattle.fields.specs.declared.Field.{Field}
 use Rattle.fields.specs.declared.Field.the-variants as field
 use Rattle.fields.specs.declared.Flaw.the-variants.{Right}
 use Rattle.fields.specs.Words.{word, indexed, wide}
-use Rattle.writing.specs.Binary.{name, valtype, optional, resultlist, destructor, canonopt, slotAt, slotsAt, slots, externname, typebound, externdesc, bytes}
-use Rattle.writing.specs.Judge.{named, optionalName, flaw}
+use Rattle.writing.specs.Binary.{name, valtype, optional, resultlist, destructor, canonopt, slotAt, slotsAt, slots, externname, typebound, externdesc, bytes, argument, coresortidx, sortidx}
+use Rattle.writing.specs.Judge.{named, flaw}
 use Rattle.writing.specs.inside.Size.{valueSize, optionalSize, nameSize, slotSize, externSize, referenceSize, size}
-use Rattle.writing.proofs.FlawLaws.{name-inside, slot-inside, ExternRight, extern-right}
+use Rattle.writing.specs.inside.Extern.{SlotInside, ExternInside}
+use Rattle.writing.proofs.FlawLaws.{name-inside, extern-inside}
 
 -- ---- a choice of two: what is made of it, and its bound
 
@@ -40,7 +41,7 @@ inside-length pool start n h = rw (length-append, length-take-le n (drop start p
 name-length : (pool ws : List ℕ) → named pool ws 0 ≡ Right → length (name pool (word ws 0) (word ws 1)) ≡ nameSize ws 0
 name-length pool ws e = inside-length pool (word ws 0) (word ws 1) (name-inside pool ws 0 e)
 
-slot-length : (pool ws : List ℕ) (k i : ℕ) → optionalName pool ws i ≡ Right → length (slotAt pool ws k i) ≡ slotSize ws i
+slot-length : (pool ws : List ℕ) (k i : ℕ) → SlotInside pool ws i → length (slotAt pool ws k i) ≡ slotSize ws i
 unfolding slotAt
 slot-length pool ws k i e = go (eqb (word ws i) 0) refl
   where
@@ -49,12 +50,12 @@ slot-length pool ws k i e = go (eqb (word ws i) 0) refl
     go true q = refl
     go false q =
         let later : i + 1 + 1 ≡ i + 2 = omega arith in
-        rw later (omega (arith, inside-length pool (word ws (i + 1)) (word ws (i + 2)) (slot-inside pool ws i e (eqb-false _ _ q))))
+        rw later (omega (arith, inside-length pool (word ws (i + 1)) (word ws (i + 2)) (e (eqb-false _ _ q))))
 
-extern-length : (pool ws : List ℕ) → ExternRight pool ws → length (externname pool ws) ≡ externSize ws
+pub extern-length : (pool ws : List ℕ) → ExternInside pool ws → length (externname pool ws) ≡ externSize ws
 unfolding externname slotsAt
 extern-length pool ws r =
-    let itself = name-length pool ws (r .itself) in
+    let itself = inside-length pool (word ws 0) (word ws 1) (r .itself) in
     let implements = slot-length pool ws 0 2 (r .implements) in
     let suffix = slot-length pool ws 1 5 (r .suffix) in
     let id = slot-length pool ws 2 8 (r .id) in
@@ -76,7 +77,7 @@ reference-length ws =
     (cond-of length (eqb (word ws 0) 3) _ _ _ _ (cond-of (λ l. suc (length l)) (eqb (word ws 1) 0) _ _ _ _ (omega arith) refl) (omega arith)))
 
 pub size-right : (pool : List ℕ) (f : Field) (ws : List ℕ) → flaw pool f ws ≡ Right → length (bytes pool f ws) ≡ size f ws
-unfolding bytes size flaw resultlist destructor canonopt
+unfolding bytes size flaw resultlist destructor canonopt argument coresortidx sortidx
 size-right pool field.Nothing ws e = refl
 size-right pool (field.Fixed b) ws e = refl
 size-right pool field.Primitive ws e = refl
@@ -91,8 +92,11 @@ size-right pool field.Flag ws e = refl
 size-right pool field.Rep ws e = refl
 size-right pool field.OptionalIndex ws e = cond-of length (eqb (word ws 0) 0) _ _ _ _ refl (omega arith)
 size-right pool field.Choice ws e = cond-of (λ l. suc (length l)) (indexed (word ws 0)) _ _ _ _ (omega arith) refl
-size-right pool field.ExternName ws e = extern-length pool ws (extern-right pool ws e)
+size-right pool field.ExternName ws e = extern-length pool ws (extern-inside pool ws e)
 size-right pool field.Reference ws e = reference-length ws
+size-right pool field.Argument ws e = omega arith
+size-right pool field.CoreSortIndex ws e = omega arith
+size-right pool field.SortIndex ws e = cond-of length (eqb (word ws 0) 0) _ _ _ _ (omega arith) (omega arith)
 
 -- ---- the bound
 
@@ -111,19 +115,19 @@ reference-small ws =
     (cond-small (eqb (word ws 0) 3) _ _ _ (cond-small (eqb (word ws 1) 0) _ _ _ (omega arith) (omega arith)) (omega arith)))
 
 module _ (pool ws : List ℕ) (few : length pool ≤ 65536) where
-  name-small : named pool ws 0 ≡ Right → nameSize ws 0 ≤ 65541
-  name-small e = omega (arith, name-inside pool ws 0 e, size-bounds 128 (word ws 1))
+  name-small : word ws 0 + word ws 1 ≤ length pool → nameSize ws 0 ≤ 65541
+  name-small h = omega (arith, size-bounds 128 (word ws 1))
 
-  slot-small : (i : ℕ) → optionalName pool ws i ≡ Right → slotSize ws i ≤ 65542
+  slot-small : (i : ℕ) → SlotInside pool ws i → slotSize ws i ≤ 65542
   slot-small i e = go (eqb (word ws i) 0) refl
     where
       go : (t : Bool) → eqb (word ws i) 0 ≡ t → cond t 0 (1 + nameSize ws (i + 1)) ≤ 65542
       go true q = omega arith
       go false q =
           let later : i + 1 + 1 ≡ i + 2 = omega arith in
-          rw later (omega (arith, slot-inside pool ws i e (eqb-false _ _ q), size-bounds 128 (word ws (i + 2))))
+          rw later (omega (arith, e (eqb-false _ _ q), size-bounds 128 (word ws (i + 2))))
 
-  extern-small : ExternRight pool ws → externSize ws ≤ 262169
+  extern-small : ExternInside pool ws → externSize ws ≤ 262169
   extern-small r =
       let itself = name-small (r .itself) in
       let implements = slot-small 2 (r .implements) in
@@ -140,15 +144,20 @@ module _ (pool ws : List ℕ) (few : length pool ≤ 65536) where
   size-bound field.Optional e = omega (arith, optional-small 1 ws (omega arith))
   size-bound field.OptionalThenZero e = omega (arith, optional-small 1 ws (omega arith))
   size-bound field.Result e = omega (arith, optional-small 2 ws (omega arith))
-  size-bound field.Name e = name-small e
+  size-bound field.Name e = name-small (name-inside pool ws 0 e)
   size-bound field.Index e = omega (arith, size-bounds 128 (word ws 0))
   size-bound field.Async e = omega arith
   size-bound field.Flag e = omega arith
   size-bound field.Rep e = omega arith
   size-bound field.OptionalIndex e = cond-small (eqb (word ws 0) 0) _ _ _ (omega arith) (omega (arith, size-bounds 128 (word ws 1)))
   size-bound field.Choice e = cond-small (indexed (word ws 0)) _ _ _ (omega (arith, size-bounds 128 (word ws 1))) (omega arith)
-  size-bound field.ExternName e = omega (arith, extern-small (extern-right pool ws e))
+  size-bound field.ExternName e = omega (arith, extern-small (extern-inside pool ws e))
   size-bound field.Reference e = omega (arith, reference-small ws)
+  size-bound field.Argument e = omega (arith, size-bounds 128 (word ws 0))
+  size-bound field.CoreSortIndex e = omega (arith, size-bounds 128 (word ws 1))
+  size-bound field.SortIndex e =
+      let one = size-bounds 128 (word ws 1) in
+      cond-small (eqb (word ws 0) 0) _ _ _ (omega arith) (omega arith)
 
 -- beside a pool of document 01's size: a name has two words, and at most its length in five bytes and 65,536 bytes
 pub field-bound : (pool : List ℕ) (f : Field) (ws : List ℕ) → length pool ≤ 65536 → flaw pool f ws ≡ Right

@@ -54,6 +54,9 @@ small field.OptionalIndex = true
 small field.Choice = true
 small field.ExternName = true
 small field.Reference = true
+small field.Argument = true
+small field.CoreSortIndex = true
+small field.SortIndex = true
 
 abbrev smalls : List Field → Bool
 smalls [] = true
@@ -104,6 +107,9 @@ small-byte field.OptionalIndex e = tt
 small-byte field.Choice e = tt
 small-byte field.ExternName e = tt
 small-byte field.Reference e = tt
+small-byte field.Argument e = tt
+small-byte field.CoreSortIndex e = tt
+small-byte field.SortIndex e = tt
 
 smalls-append : (fs gs : List Field) → smalls fs ≡ true → smalls gs ≡ true → smalls (fs ++ gs) ≡ true
 smalls-append [] gs e f = f

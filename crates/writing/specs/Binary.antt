@@ -1,8 +1,9 @@
 -- The bytes of each field, as the productions of the core and component binary documents, over the words of a row.
 use Prim.Native.Nat.{ℕ, _+_, _-_}
-use mathlib.Core.Bool.{cond}
+use mathlib.Core.Bool.{Bool, true, false, cond}
 use mathlib.Core.List.{List, [], _∷_, _++_}
-use lib.Dec.{eqb}
+use lib.Dec.{eqb, leb}
+use lib.ListN.{length}
 use Rattle.numbers.specs.Leb.{unsigned, signed}
 use Rattle.fields.specs.declared.Field.{Field}
 use Rattle.fields.specs.declared.Field.the-variants as field
@@ -66,6 +67,19 @@ externname pool ws =
     cond (eqb (slots ws) 0) (0x00 ∷ name pool (word ws 0) (word ws 1))
     ((0x02 ∷ name pool (word ws 0) (word ws 1)) ++ (slots ws ∷ slotsAt pool ws))
 
+-- whether an option is absent, or its name ends within the pool; whether every name of an extern name does
+unfoldable pub slotInside : List ℕ → List ℕ → ℕ → Bool
+slotInside pool ws i = cond (eqb (word ws i) 0) true (leb (word ws (i + 1) + word ws (i + 2)) (length pool))
+
+unfoldable pub externInside : List ℕ → List ℕ → Bool
+externInside pool ws =
+    cond (leb (word ws 0 + word ws 1) (length pool))
+    (cond (slotInside pool ws 2) (cond (slotInside pool ws 5) (slotInside pool ws 8) false) false) false
+
+-- the bytes of an extern name whose names end within the pool, none where one does not
+unfoldable pub externPart : List ℕ → List ℕ → List ℕ
+externPart pool ws = cond (externInside pool ws) (externname pool ws) []
+
 -- typebound ::= 0x00 i:<typeidx> => (eq i) | 0x01 => (sub resource)
 unfoldable pub typebound : ℕ → ℕ → List ℕ
 typebound bound x = cond (eqb bound 0) (0x00 ∷ unsigned x) (0x01 ∷ [])
@@ -76,6 +90,20 @@ unfoldable pub externdesc : ℕ → ℕ → ℕ → List ℕ
 externdesc sort x y =
     cond (eqb sort 0) (0x00 ∷ 0x11 ∷ unsigned x)
     (cond (eqb sort 2) (0x02 ∷ valtype x y) (cond (eqb sort 3) (0x03 ∷ typebound x y) (sort ∷ unsigned x)))
+
+-- core:instantiatearg ::= n:<core:name> 0x12 i:<core:instanceidx> => (with n (instance i)), behind its name
+unfoldable pub argument : ℕ → List ℕ
+argument x = 0x12 ∷ unsigned x
+
+-- core:sortidx ::= sort:<core:sort> idx:<u32>
+-- core:sort ::= 0x00 => func | 0x01 => table | 0x02 => memory | 0x03 => global | 0x04 => tag
+unfoldable pub coresortidx : ℕ → ℕ → List ℕ
+coresortidx sort x = sort ∷ unsigned x
+
+-- sortidx ::= sort:<sort> idx:<u32>
+-- sort ::= 0x00 0x11 => core module | 0x01 => func | 0x02 => value | 0x03 => type | 0x04 => component | 0x05 => instance
+unfoldable pub sortidx : ℕ → ℕ → List ℕ
+sortidx sort x = cond (eqb sort 0) (0x00 ∷ 0x11 ∷ unsigned x) (sort ∷ unsigned x)
 
 -- the bytes of a field whose words stand at the front of ws
 unfoldable pub bytes : List ℕ → Field → List ℕ → List ℕ
@@ -95,3 +123,6 @@ bytes pool field.OptionalIndex ws = destructor (word ws 0) (word ws 1)
 bytes pool field.Choice ws = canonopt (word ws 0) (word ws 1)
 bytes pool field.ExternName ws = externname pool ws
 bytes pool field.Reference ws = externdesc (word ws 0) (word ws 1) (word ws 2)
+bytes pool field.Argument ws = argument (word ws 0)
+bytes pool field.CoreSortIndex ws = coresortidx (word ws 0) (word ws 1)
+bytes pool field.SortIndex ws = sortidx (word ws 0) (word ws 1)

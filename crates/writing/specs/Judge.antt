@@ -80,6 +80,9 @@ flaw pool field.Choice ws = choice ws
 flaw pool field.ExternName ws =
     then (named pool ws 0) (then (optionalName pool ws 2) (then (optionalName pool ws 5) (optionalName pool ws 8)))
 flaw pool field.Reference ws = reference ws
+flaw pool field.Argument ws = Right
+flaw pool field.CoreSortIndex ws = below 5 ws 0
+flaw pool field.SortIndex ws = below 6 ws 0
 
 -- what a flaw leaves of an answer
 abbrev pub unless : Flaw → Leaf → Leaf

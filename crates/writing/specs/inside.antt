@@ -1,3 +1,4 @@
+pub mod Extern
 pub mod Rows
 pub mod Size
 pub mod Wrote

@@ -9,7 +9,7 @@ ghost use Prim.Native.Nat.{_<_, _+_, _^_};
 ghost use lib.ListN.{getD};
 ghost use Rattle.fields.specs.Words.{wide};
 ghost use Rattle.writing.specs.Judge.{then, below, unused, value, optionalValue, named, optionalIndex, choice, optionalName, reference, flaw};
-ghost use Rattle.fields.specs.declared.Flaw.the-variants.{Right};
+ghost use Rattle.writing.specs.inside.Extern.{optionWords};
 
 // How many words a field has.
 pub fn wide_of(f: Field) -> usize
@@ -32,6 +32,9 @@ pub fn wide_of(f: Field) -> usize
         Field::Choice => 2,
         Field::ExternName => 11,
         Field::Reference => 3,
+        Field::Argument => 1,
+        Field::CoreSortIndex => 2,
+        Field::SortIndex => 2,
     }
 }
 
@@ -164,8 +167,8 @@ fn three_at(ws: &[u32], i: usize) -> u64
 }
 
 // Whether no option is present, as in most imports: then none needs to be judged.
-fn is_bare(pool: &[u8], ws: &[u32]) -> bool
-    ensures { λ r. ⌜ (r ≡ true → then (optionalName (now (pool .entry)) (now (ws .entry)) 2) (then (optionalName (now (pool .entry)) (now (ws .entry)) 5) (optionalName (now (pool .entry)) (now (ws .entry)) 8)) ≡ Right) ⌝ }
+pub fn is_bare(ws: &[u32]) -> bool
+    ensures { λ r. ⌜ (r ≡ true → optionWords (now (ws .entry)) ≡ 0) ⌝ }
 {
     if ws.len() < 11 {
         return false;
@@ -177,11 +180,11 @@ fn is_bare(pool: &[u8], ws: &[u32]) -> bool
     false
 }
 
-fn extern_name_of(pool: &[u8], ws: &[u32]) -> Flaw
+pub fn extern_name_of(pool: &[u8], ws: &[u32]) -> Flaw
     ensures { λ r. ⌜ r ≡ flaw (now (pool .entry)) Field.ExternName (now (ws .entry)) ⌝ }
 {
     let name = named_at(pool, ws, 0);
-    if is_bare(pool, ws) {
+    if is_bare(ws) {
         return name;
     }
     let implements = optional_name_at(pool, ws, 2);
@@ -234,5 +237,8 @@ pub fn flaw_of(f: Field, pool: &[u8], ws: &[u32]) -> Flaw
         Field::Choice => choice_of(ws),
         Field::ExternName => extern_name_of(pool, ws),
         Field::Reference => reference_of(ws),
+        Field::Argument => Flaw::Right,
+        Field::CoreSortIndex => below_at(5, ws, 0),
+        Field::SortIndex => below_at(6, ws, 0),
     }
 }

@@ -1,10 +1,13 @@
 // Rows to bytes: the walk over a row that finds what is wrong with it, and what the straight code of every kind uses.
+mod extern_name;
 mod judge;
 mod row;
 mod shape;
 mod size;
 mod walk;
 
+pub use extern_name::extern_size;
+pub use extern_name::put_extern;
 use numbers::Stored;
 pub use row::measure_row;
 pub use shape::measure_shape;

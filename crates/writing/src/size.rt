@@ -7,7 +7,7 @@ ghost use Prim.Native.Nat.{_<_, _≤_, _+_, _^_};
 ghost use lib.ListN.{getD, length};
 ghost use Rattle.numbers.specs.Leb.{unsigned};
 ghost use Rattle.writing.specs.Binary.{slots, flag};
-ghost use Rattle.writing.specs.inside.Size.{valueSize, optionalSize, nameSize, slotSize, slotsSize, externSize, referenceSize, size};
+ghost use Rattle.writing.specs.inside.Size.{valueSize, optionalSize, nameSize, slotSize, slotsSize, externSize, referenceSize, sortIndexSize, size};
 
 // The index at i as a u32.
 fn index_size(ws: &[u32], i: usize) -> usize
@@ -71,13 +71,13 @@ fn present_at(ws: &[u32], i: usize) -> usize
 }
 
 // How many options of an extern name are present.
-fn slots_of(ws: &[u32]) -> usize
+pub fn slots_of(ws: &[u32]) -> usize
     ensures { λ r. ⌜ (r ≡ slots (now (ws .entry))) × (r ≤ 3) ⌝ }
 {
     present_at(ws, 2) + (present_at(ws, 5) + present_at(ws, 8))
 }
 
-fn extern_size(ws: &[u32]) -> usize
+pub fn extern_size(ws: &[u32]) -> usize
     ensures { λ r. ⌜ (r ≡ externSize (now (ws .entry))) × (r ≤ 2 ^ 35) ⌝ }
 {
     if slots_of(ws) == 0 {
@@ -123,6 +123,15 @@ fn choice_size(ws: &[u32]) -> usize
     1
 }
 
+fn sort_index_size(ws: &[u32]) -> usize
+    ensures { λ r. ⌜ (r ≡ sortIndexSize (now (ws .entry))) × (r ≤ 7) ⌝ }
+{
+    if word_at(ws, 0) == 0 {
+        return 2 + index_size(ws, 1);
+    }
+    1 + index_size(ws, 1)
+}
+
 pub fn size_of(f: Field, ws: &[u32]) -> usize
     ensures { λ r. ⌜ (r ≡ size f (now (ws .entry))) × (r ≤ 2 ^ 35) ⌝ }
 {
@@ -143,5 +152,8 @@ pub fn size_of(f: Field, ws: &[u32]) -> usize
         Field::Choice => choice_size(ws),
         Field::ExternName => extern_size(ws),
         Field::Reference => reference_size(ws),
+        Field::Argument => 1 + index_size(ws, 0),
+        Field::CoreSortIndex => 1 + index_size(ws, 1),
+        Field::SortIndex => sort_index_size(ws),
     }
 }

@@ -37,13 +37,15 @@ returns-2 c e = ready-at 8 refl (c .before .before .before .before) (c .if6 .tak
 
 returns-3 : tie.Need-returns-3
 unfolding knownFamily
-returns-3 c e = ready-at 10 refl (c .before .before .before .before .before) (eqb-true _ _ e)
+returns-3 c e = ready-at 10 refl (c .before .before .before .before .before .before) (c .if7 .taken)
 
 returns-4 : tie.Need-returns-4
-returns-4 c = not-ready
+unfolding knownFamily
+returns-4 c e = ready-at 2 refl (c .before .before .before .before .before .before .before .before) (c .if8 .taken)
 
 returns-5 : tie.Need-returns-5
-returns-5 c = not-ready
+unfolding knownFamily
+returns-5 c e = ready-at 5 refl (c .before .before .before .before .before .before .before .before .before) (eqb-true _ _ e)
 
 returns-6 : tie.Need-returns-6
 returns-6 c = not-ready
@@ -51,8 +53,15 @@ returns-6 c = not-ready
 returns-7 : tie.Need-returns-7
 returns-7 c = not-ready
 
+returns-8 : tie.Need-returns-8
+returns-8 c = not-ready
+
+returns-9 : tie.Need-returns-9
+returns-9 c = not-ready
+
 pub is-ready-spec : {M : Type 1} → statement M
 is-ready-spec =
     tie.close
     (tie.spec (search needs) (search needs) (search needs) (search needs) (search needs) returns (search needs)
-    returns-2 (search needs) returns-3 returns-4 returns-5 returns-6 returns-7)
+    returns-2 (search needs) returns-3 (search needs) returns-4 (search needs) returns-5 returns-6 returns-7 returns-8
+    returns-9)

@@ -1,8 +1,7 @@
 -- `family_at` meets its contract: a row of no words has no kind, as if its kind were 0; else its kind is its first word.
 use native.Mathlib.Omega.{arith}
+use mathlib.Core.Path.{_∙_}
 use borrow.Author.Needs.{needs}
-use borrow.Author.Tests.{eq-eqb, ne-eqb, le-leb, lt-leb}
-use Rattle.sheets.specs.Sheet.{familyOf}
 use Rattle.sheets.proofs.FrameLaws.{family-none, family-of, front}
 use Rattle.sheets.proofs.family_at.Statement.{statement}
 use Rattle.sheets.proofs.family_at.Tie as tie
@@ -24,27 +23,11 @@ number-at-requires-2 c κs =
     omega arith
 
 returns-2 : tie.Need-returns-2
-unfolding familyOf
 returns-2 c =
     let one = c .before .before in
-    simp (le-leb _ _ (c .if2 .taken)) at (family-of _ _ _ (one .before .number-at .ensures) (one .if1 .left) _ (c .before .number-at2 .ensures))
-
-returns-3 : tie.Need-returns-3
-unfolding familyOf
-returns-3 c =
-    let two = c .before .before in
-    let one = two .before in
-    simp (lt-leb _ _ (c .before .if2 .left), eq-eqb _ _ (c .if3 .taken))
-    at (family-of _ _ _ (one .before .number-at .ensures) (one .if1 .left) _ (two .number-at2 .ensures))
-
-returns-4 : tie.Need-returns-4
-unfolding familyOf
-returns-4 c =
-    let two = c .before .before in
-    let one = two .before in
-    simp (lt-leb _ _ (c .before .if2 .left), ne-eqb _ _ (c .if3 .left))
-    at (family-of _ _ _ (one .before .number-at .ensures) (one .if1 .left) _ (two .number-at2 .ensures))
+    c .family-of .ensures ∙ family-of _ _ _ (one .before .number-at .ensures) (one .if1 .left) _ (c .before .number-at2 .ensures)
 
 pub family-at-spec : {M : Type 1} → statement M
 family-at-spec =
-    tie.close (tie.spec number-at-requires returns (search needs) number-at-requires-2 returns-2 returns-3 returns-4)
+    tie.close
+    (tie.spec number-at-requires returns (search needs) number-at-requires-2 (λ c κs. search needs) returns-2)

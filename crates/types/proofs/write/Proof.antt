@@ -5,7 +5,8 @@ use denote.Ref.{now}
 use Rattle.fields.specs.Words.{word}
 use Rattle.types.specs.Write.{shapeOf, measuredType, writeType}
 use Rattle.writing.proofs.RowLaws.{within-fits, written-answer, refused-answer}
-use Rattle.types.proofs.KindLaws.{sized-fits, tried-not, no-room}
+use Rattle.writing.proofs.KindLaws.{sized-fits}
+use Rattle.types.proofs.KindLaws.{tried-not, no-room}
 use borrow.Author.Needs.{needs}
 use Rattle.types.proofs.write.Statement.{statement}
 use Rattle.types.proofs.write.Tie as tie

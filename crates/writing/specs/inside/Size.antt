@@ -36,6 +36,9 @@ referenceSize ws =
     (cond (eqb (word ws 0) 2) (1 + valueSize ws 1)
     (cond (eqb (word ws 0) 3) (cond (eqb (word ws 1) 0) (2 + length (unsigned (word ws 2))) 2) (1 + length (unsigned (word ws 1)))))
 
+abbrev pub sortIndexSize : List ℕ → ℕ
+sortIndexSize ws = cond (eqb (word ws 0) 0) (2 + length (unsigned (word ws 1))) (1 + length (unsigned (word ws 1)))
+
 unfoldable pub size : Field → List ℕ → ℕ
 size field.Nothing ws = 0
 size (field.Fixed b) ws = 1
@@ -53,3 +56,6 @@ size field.OptionalIndex ws = cond (eqb (word ws 0) 0) 1 (1 + length (unsigned (
 size field.Choice ws = cond (indexed (word ws 0)) (1 + length (unsigned (word ws 1))) 1
 size field.ExternName ws = externSize ws
 size field.Reference ws = referenceSize ws
+size field.Argument ws = 1 + length (unsigned (word ws 0))
+size field.CoreSortIndex ws = 1 + length (unsigned (word ws 1))
+size field.SortIndex ws = sortIndexSize ws

@@ -6,8 +6,8 @@ use lib.ListN.{length, length-set}
 use lib.Seq.{sets}
 use Rattle.numbers.specs.Leb.{unsigned}
 use Rattle.writing.specs.Binary.{valtype, externdesc}
-use Rattle.writing.proofs.GroupLaws.{bytes-wrote}
-use Rattle.imports.proofs.ExternLaws.{reference-some, module-bytes, value-bytes, bound-bytes, resource-bytes, index-bytes, byte-then, bytes-then, sets-size}
+use Rattle.writing.proofs.GroupLaws.{bytes-wrote, byte-then, bytes-then, sets-size}
+use Rattle.imports.proofs.ReferenceLaws.{reference-some, module-bytes, value-bytes, bound-bytes, resource-bytes, index-bytes}
 use borrow.Author.Needs.{needs}
 use Rattle.imports.proofs.straight.put_reference.Statement.{statement}
 use Rattle.imports.proofs.straight.put_reference.Tie as tie

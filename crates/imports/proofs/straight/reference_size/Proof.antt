@@ -2,7 +2,7 @@
 use native.Mathlib.Omega.{arith}
 use Rattle.numbers.proofs.LebLaws.{size-bounds}
 use Rattle.writing.proofs.RowLaws.{value-small}
-use Rattle.imports.proofs.ExternLaws.{value-reference, bound-reference, resource-reference, module-reference, index-reference}
+use Rattle.imports.proofs.ReferenceLaws.{value-reference, bound-reference, resource-reference, module-reference, index-reference}
 use borrow.Author.Needs.{needs}
 use Rattle.imports.proofs.straight.reference_size.Statement.{statement}
 use Rattle.imports.proofs.straight.reference_size.Tie as tie

@@ -6,9 +6,10 @@ use mathlib.Core.List.{[], _∷_}
 use denote.Ref.{now}
 use borrow.Author.Needs.{needs}
 use Rattle.fields.specs.declared.Field.the-variants as field
+use Rattle.writing.proofs.ElementLaws.{name-at-small}
 use Rattle.writing.proofs.GroupLaws.{Going, going-start, going-end}
 use Rattle.types.specs.Table.{case}
-use Rattle.types.proofs.CountedLaws.{label-small, case-next}
+use Rattle.types.proofs.CountedLaws.{case-next}
 use Rattle.types.proofs.counted.cases_size.Statement.{statement}
 use Rattle.types.proofs.counted.cases_size.Tie as tie
 
@@ -36,7 +37,7 @@ add-made c =
     let loop = at-loop .loop in
     let args = at-loop .before .before .before .args in
     let pre = at-loop .before .before .before .pre in
-    omega (arith, label-small (now (args .pool)) (now (args .row)) (loop .at) (pre .0 .0) (name-size .ensures), optional-size .ensures .1)
+    omega (arith, name-at-small (now (args .pool)) (now (args .row)) (loop .at) (pre .0 .0) (name-size .ensures), optional-size .ensures .1)
 
 add-made-2 : tie.Need-add-made-2 Inv-loop μ-loop
 add-made-2 c =
@@ -46,7 +47,7 @@ add-made-2 c =
     let loop = at-loop .loop in
     let args = at-loop .before .before .before .args in
     let pre = at-loop .before .before .before .pre in
-    omega (arith, label-small (now (args .pool)) (now (args .row)) (loop .at) (pre .0 .0) (name-size .ensures), optional-size .ensures .1)
+    omega (arith, name-at-small (now (args .pool)) (now (args .row)) (loop .at) (pre .0 .0) (name-size .ensures), optional-size .ensures .1)
 
 add-made-3 : tie.Need-add-made-3 Inv-loop μ-loop
 add-made-3 c =
@@ -56,7 +57,7 @@ add-made-3 c =
     let loop = at-loop .loop in
     let args = at-loop .before .before .before .args in
     let pre = at-loop .before .before .before .pre in
-    omega (arith, label-small (now (args .pool)) (now (args .row)) (loop .at) (pre .0 .0) (name-size .ensures), optional-size .ensures .1)
+    omega (arith, name-at-small (now (args .pool)) (now (args .row)) (loop .at) (pre .0 .0) (name-size .ensures), optional-size .ensures .1)
 
 loop-again : tie.Need-loop-again Inv-loop μ-loop
 loop-again c =

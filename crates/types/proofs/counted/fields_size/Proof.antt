@@ -8,9 +8,10 @@ use borrow.Author.Needs.{needs}
 use Rattle.fields.specs.declared.Field.the-variants as field
 use Rattle.fields.specs.Words.{word}
 use Rattle.writing.proofs.RowLaws.{value-small}
+use Rattle.writing.proofs.ElementLaws.{name-at-small}
 use Rattle.writing.proofs.GroupLaws.{Going, going-start, going-end}
 use Rattle.types.specs.Table.{labelvaltype}
-use Rattle.types.proofs.CountedLaws.{label-small, field-next}
+use Rattle.types.proofs.CountedLaws.{field-next}
 use Rattle.types.proofs.counted.fields_size.Statement.{statement}
 use Rattle.types.proofs.counted.fields_size.Tie as tie
 
@@ -42,7 +43,7 @@ add-made c =
     let at = loop .at in
     omega (
       arith,
-      label-small (now (args .pool)) row at (pre .0 .0) (name-size .ensures),
+      name-at-small (now (args .pool)) row at (pre .0 .0) (name-size .ensures),
       value-size .ensures,
       value-small (word row (at + 2)) (word row (at + 3)),
     )
@@ -59,7 +60,7 @@ add-made-2 c =
     let at = loop .at in
     omega (
       arith,
-      label-small (now (args .pool)) row at (pre .0 .0) (name-size .ensures),
+      name-at-small (now (args .pool)) row at (pre .0 .0) (name-size .ensures),
       value-size .ensures,
       value-small (word row (at + 2)) (word row (at + 3)),
     )

@@ -6,9 +6,10 @@ use mathlib.Core.List.{[], _∷_}
 use denote.Ref.{now}
 use borrow.Author.Needs.{needs}
 use Rattle.fields.specs.declared.Field.the-variants as field
+use Rattle.writing.proofs.ElementLaws.{name-at-small}
 use Rattle.writing.proofs.GroupLaws.{Going, going-start, going-end}
 use Rattle.types.specs.Table.{label}
-use Rattle.types.proofs.CountedLaws.{label-small, label-next}
+use Rattle.types.proofs.CountedLaws.{label-next}
 use Rattle.types.proofs.counted.labels_size.Statement.{statement}
 use Rattle.types.proofs.counted.labels_size.Tie as tie
 
@@ -35,7 +36,7 @@ add-made c =
     let at-args = c .before .before .before .before .before .before .before .before in
     let args = at-args .args in
     let pre = at-args .pre in
-    omega (arith, label-small (now (args .pool)) (now (args .row)) (loop .at) (pre .0 .0) (name-size .ensures))
+    omega (arith, name-at-small (now (args .pool)) (now (args .row)) (loop .at) (pre .0 .0) (name-size .ensures))
 
 loop-again : tie.Need-loop-again Inv-loop μ-loop
 loop-again c =

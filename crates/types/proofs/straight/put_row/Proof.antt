@@ -3,7 +3,8 @@ use mathlib.Core.Path.{sym, ap, _∙_}
 use denote.Ref.{now}
 use Rattle.types.specs.Write.{shapeOf}
 use Rattle.writing.proofs.GroupLaws.{name-element, value-element, labelled-element, case-element}
-use Rattle.types.proofs.KindLaws.{as-kind, put-as, put-not, kind-other, kind-0, kind-1, kind-2, kind-3, kind-4, kind-5, kind-6, kind-7, kind-8, kind-9, kind-10, kind-11, kind-12, kind-13, kind-14, kind-15, kind-16, label-wide, value-wide, labelled-wide, case-wide, counted-fits, counted-bytes, primitive-fits, primitive-bytes, value-fits, value-bytes, values-fits, values-bytes, fixed-fits, fixed-bytes, optionals-fits, optionals-bytes, index-fits, index-bytes, optional-fits, optional-bytes, resource-fits, resource-bytes, function-fits, function-bytes}
+use Rattle.writing.proofs.KindLaws.{put-as, put-not}
+use Rattle.types.proofs.KindLaws.{as-kind, kind-other, kind-0, kind-1, kind-2, kind-3, kind-4, kind-5, kind-6, kind-7, kind-8, kind-9, kind-10, kind-11, kind-12, kind-13, kind-14, kind-15, kind-16, label-wide, value-wide, labelled-wide, case-wide, counted-fits, counted-bytes, primitive-fits, primitive-bytes, value-fits, value-bytes, values-fits, values-bytes, fixed-fits, fixed-bytes, optionals-fits, optionals-bytes, index-fits, index-bytes, optional-fits, optional-bytes, resource-fits, resource-bytes, function-fits, function-bytes}
 use borrow.Author.Needs.{needs}
 use Rattle.types.proofs.straight.put_row.Statement.{statement}
 use Rattle.types.proofs.straight.put_row.Tie as tie

@@ -2,7 +2,8 @@
 use mathlib.Core.Path.{refl, sym, _∙_}
 use denote.Ref.{now}
 use Rattle.writing.proofs.RowLaws.{tried-none}
-use Rattle.types.proofs.KindLaws.{put-as, tried-as, sized-fits, sized-tried}
+use Rattle.writing.proofs.KindLaws.{put-as, sized-fits}
+use Rattle.types.proofs.KindLaws.{tried-as, sized-tried}
 use Rattle.types.proofs.KindLaws.{kind-0, kind-3, kind-4, kind-5, kind-9, kind-10, kind-11, kind-12, kind-13, kind-14, kind-16}
 use Rattle.types.proofs.KindLaws.{fixed-fits, index-fits, optional-fits, optionals-fits, primitive-fits, resource-fits, value-fits, values-fits}
 use Rattle.types.proofs.KindLaws.{fixed-bytes, index-bytes, optional-bytes, optionals-bytes, primitive-bytes, resource-bytes, value-bytes, values-bytes}

@@ -1,5 +1,6 @@
 -- `writing::judge::extern_name_of` meets its contract: without options the name decides (`plain-flaw`); else the four parts are judged,
 -- and the first flaw is `flaw` of them.
+use mathlib.Core.Path.{sym, _∙_}
 use denote.Ref.{now}
 use borrow.Author.Needs.{needs}
 use Rattle.writing.specs.Judge.{flaw}
@@ -11,7 +12,7 @@ returns : tie.Need-returns
 returns c =
     let asked = c .before in
     let a = asked .before .before .before .before .args in
-    plain-flaw (now (a .pool)) (now (a .ws)) _ (asked .before .named-at .ensures) (asked .is-bare .ensures (c .if1 .taken))
+    asked .before .named-at .ensures ∙ sym (plain-flaw (now (a .pool)) (now (a .ws)) (asked .is-bare .ensures (c .if1 .taken)))
 
 returns-2 : tie.Need-returns-2
 unfolding flaw

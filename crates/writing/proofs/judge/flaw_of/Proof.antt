@@ -69,6 +69,18 @@ returns-16 : tie.Need-returns-16
 unfolding flaw
 returns-16 c = c .reference-of .ensures ∙ simp (c .before .enum-told16 .given .1)
 
+returns-17 : tie.Need-returns-17
+unfolding flaw
+returns-17 c = simp (c .enum-told17 .given .1)
+
+returns-18 : tie.Need-returns-18
+unfolding flaw
+returns-18 c = c .below-at5 .ensures ∙ simp (c .before .enum-told18 .given .1)
+
+returns-19 : tie.Need-returns-19
+unfolding flaw
+returns-19 c = c .below-at6 .ensures ∙ simp (c .before .enum-told19 .given .1)
+
 pub flaw-of-spec : {M : Type 1} → statement M
 flaw-of-spec =
     tie.close
@@ -77,5 +89,5 @@ flaw-of-spec =
     (λ c κs. search needs) (search needs) (λ c κs. search needs) (search needs) (search needs) (λ c κs. search needs)
     (search needs) (λ c κs. search needs) (search needs) (λ c κs. search needs) (search needs) (λ c κs. search needs)
     (search needs) (λ c κs. search needs) (search needs) (λ c κs. search needs) (search needs) (λ c κs. search needs)
-    returns returns-2 returns-3 returns-4 returns-5 returns-6 returns-7 returns-8 returns-9 returns-10 returns-11
-    returns-12 returns-13 returns-14 returns-15 returns-16)
+    (search needs) (search needs) (λ c κs. search needs) (search needs) (λ c κs. search needs) returns returns-2 returns-3 returns-4 returns-5 returns-6 returns-7 returns-8 returns-9 returns-10 returns-11
+    returns-12 returns-13 returns-14 returns-15 returns-16 returns-17 returns-18 returns-19)

@@ -1,7 +1,6 @@
--- `writing::judge::is_bare` meets its contract: words that add up to 0 are all 0, and so no option is present (`options-absent`).
-use denote.Ref.{now}
+-- `writing::judge::is_bare` meets its contract: the three sums are those of its words.
+use native.Mathlib.Omega.{arith}
 use borrow.Author.Needs.{needs}
-use Rattle.writing.proofs.FlawLaws.{options-absent}
 use Rattle.writing.proofs.judge.is_bare.Statement.{statement}
 use Rattle.writing.proofs.judge.is_bare.Tie as tie
 use Rattle.numbers.proofs.Impossible.{impossible}
@@ -12,11 +11,7 @@ returns c e = impossible cc
 returns-2 : tie.Need-returns-2
 returns-2 c e =
     let third = c .before in
-    let a = third .before .before .before .before .before .before .args in
-    let one = third .before .before .three-at .ensures .0 in
-    let two = third .before .three-at2 .ensures .0 in
-    let three = third .three-at3 .ensures .0 in
-    options-absent (now (a .pool)) (now (a .ws)) _ _ _ one two three (c .if2 .taken)
+    omega (arith, third .before .before .three-at .ensures .0, third .before .three-at2 .ensures .0, third .three-at3 .ensures .0, c .if2 .taken)
 
 returns-3 : tie.Need-returns-3
 returns-3 c e = impossible cc

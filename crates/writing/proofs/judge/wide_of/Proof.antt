@@ -68,10 +68,22 @@ returns-16 : tie.Need-returns-16
 unfolding wide
 returns-16 c = simp (c .enum-told16 .given .1)
 
+returns-17 : tie.Need-returns-17
+unfolding wide
+returns-17 c = simp (c .enum-told17 .given .1)
+
+returns-18 : tie.Need-returns-18
+unfolding wide
+returns-18 c = simp (c .enum-told18 .given .1)
+
+returns-19 : tie.Need-returns-19
+unfolding wide
+returns-19 c = simp (c .enum-told19 .given .1)
+
 pub wide-of-spec : {M : Type 1} → statement M
 wide-of-spec =
     tie.close
     (tie.spec (search needs) (search needs) (search needs) (search needs) (search needs) (search needs) (search needs)
     (search needs) (search needs) (search needs) (search needs) (search needs) (search needs) (search needs)
-    (search needs) (search needs) returns returns-2 returns-3 returns-4 returns-5 returns-6 returns-7 returns-8
-    returns-9 returns-10 returns-11 returns-12 returns-13 returns-14 returns-15 returns-16)
+    (search needs) (search needs) (search needs) (search needs) (search needs) returns returns-2 returns-3 returns-4 returns-5 returns-6 returns-7 returns-8
+    returns-9 returns-10 returns-11 returns-12 returns-13 returns-14 returns-15 returns-16 returns-17 returns-18 returns-19)

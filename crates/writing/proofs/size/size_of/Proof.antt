@@ -69,6 +69,18 @@ returns-16 : tie.Need-returns-16
 unfolding size
 returns-16 c = rw (c .before .enum-told16 .given .1) (omega arith)
 
+returns-17 : tie.Need-returns-17
+unfolding size
+returns-17 c = rw (c .before .enum-told17 .given .1) (omega arith)
+
+returns-18 : tie.Need-returns-18
+unfolding size
+returns-18 c = rw (c .before .enum-told18 .given .1) (omega arith)
+
+returns-19 : tie.Need-returns-19
+unfolding size
+returns-19 c = rw (c .before .enum-told19 .given .1) (omega arith)
+
 pub size-of-spec : {M : Type 1} → statement M
 size-of-spec =
     tie.close
@@ -76,6 +88,6 @@ size-of-spec =
     (λ c κs. search needs) (search needs) (λ c κs. search needs) (search needs) (search needs) (λ c κs. search needs)
     (search needs) (λ c κs. search needs) (search needs) (λ c κs. search needs) (search needs) (search needs)
     (search needs) (search needs) (λ c κs. search needs) (search needs) (λ c κs. search needs) (search needs)
-    (λ c κs. search needs) (search needs) (λ c κs. search needs) returns returns-2 returns-3 returns-4 returns-5
+    (λ c κs. search needs) (search needs) (λ c κs. search needs) (search needs) (λ c κs. search needs) (search needs) (search needs) (λ c κs. search needs) (search needs) (search needs) (λ c κs. search needs) returns returns-2 returns-3 returns-4 returns-5
     returns-6 returns-7 returns-8 returns-9 returns-10 returns-11 returns-12 returns-13 returns-14 returns-15
-    returns-16)
+    returns-16 returns-17 returns-18 returns-19)

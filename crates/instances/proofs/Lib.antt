@@ -1,0 +1,4 @@
+pub mod InstanceLaws
+pub mod LaidLaws
+pub mod Productions
+pub mod Rows

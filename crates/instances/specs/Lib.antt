@@ -1,0 +1,3 @@
+pub mod Table
+pub mod Write
+pub mod inside
