@@ -4,11 +4,11 @@ use native.Mathlib.Omega.{arith}
 use mathlib.Core.Path.{_≡_, refl, sym, ap, _∙_}
 use mathlib.Core.Bool.{Bool, true, false, cond}
 use mathlib.Core.List.{List, [], _∷_, _++_}
-use borrow.Author.Tests.{eq-eqb, ne-eqb, eqb-false, le-leb, leb-true}
+use borrow.Author.Tests.{eq-eqb, ne-eqb, eqb-false, le-leb, lt-leb, leb-true}
 use lib.Dec.{eqb, leb}
-use lib.ListN.{length, take, drop, length-append}
-use lib.Seq.{sets}
-use Rattle.numbers.specs.Bytes.{left, store}
+use lib.ListN.{length, take, drop, set, length-append}
+use lib.Seq.{sets, length-sets}
+use Rattle.numbers.specs.Bytes.{Left, left, store, partOf}
 use Rattle.numbers.specs.Leb.{unsigned}
 use Rattle.numbers.specs.Numbers.{valueOf}
 use Rattle.numbers.specs.declared.bytes.Stored.{Stored}
@@ -28,6 +28,8 @@ use Rattle.writing.specs.inside.Rows.{Known}
 use Rattle.writing.specs.inside.Size.{externSize, size}
 use Rattle.writing.specs.inside.Wrote.{Wrote}
 use Rattle.writing.proofs.FlawLaws.{name-inside, plain-flaw, extern-inside}
+use Rattle.writing.proofs.GroupLaws as group
+use Rattle.writing.proofs.LeafLaws.{part-length, store-none, stored-then}
 use Rattle.writing.proofs.RowLaws.{within-fits, within-not, known-of}
 use Rattle.writing.proofs.SizeLaws.{inside-length, size-right, field-bound, extern-length}
 use Rattle.writing.proofs.WroteLaws as wrote
@@ -175,6 +177,15 @@ module _ (pool ws : List ℕ) where
   pub extern-part : flaw pool field.ExternName ws ≡ Right → externPart pool ws ≡ externname pool ws
   extern-part e = part-name (is-inside (extern-inside pool ws e))
 
+  -- without options it is that of the name's two words
+  pub bare-part : optionWords ws ≡ 0 → {s n : ℕ} → s ≡ word ws 0 → n ≡ word ws 1 → externPart pool (s ∷ n ∷ []) ≡ externPart pool ws
+  unfolding externPart externInside slotInside externname slots flag
+  bare-part e es en =
+      let x2 : word ws 2 ≡ 0 = omega arith in
+      let x5 : word ws 5 ≡ 0 = omega arith in
+      let x8 : word ws 8 ≡ 0 = omega arith in
+      rw (es, en, x2, x5, x8)
+
   -- ---- it is stored
 
   some-inside : 0 < length (externPart pool ws) → externInside pool ws ≡ true
@@ -227,3 +238,43 @@ module _ (pool row : List ℕ) (at : ℕ) where
   extern-wrote e {old} {new} {to} {s} d v room =
       let same = ap (λ l. externPart pool l) (to-end row at) ∙ extern-part pool (drop at row) e in
       wrote.of-store (d ∙ ap (λ l. store l to old) same) v room
+
+-- ---- an extern name without options, by itself
+
+module _ (pool : List ℕ) (s n : ℕ) where
+  pub bare-past : length pool < s + n → externPart pool (s ∷ n ∷ []) ≡ []
+  unfolding externPart externInside
+  bare-past h = rw (lt-leb _ _ h)
+
+  pub bare-inside : s + n ≤ length pool → externPart pool (s ∷ n ∷ []) ≡ (0x00 ∷ unsigned n) ++ partOf pool s n
+  unfolding externPart externInside slotInside externname slots flag
+  bare-inside h = rw (le-leb _ _ h) (ap (λ l. 0x00 ∷ l) (sym (group.part-name pool s n h)))
+
+  -- a byte, the length and the part, stored one after the other
+  pub bare-stored : s + n ≤ length pool → (at : ℕ) (old : List ℕ) → at + (1 + length (unsigned n) + n) ≤ length old
+      → {r q : Stored} {mid new : List ℕ} → left r mid ≡ store (unsigned n) (at + 1) (set old at 0x00)
+      → left q new ≡ store (partOf pool s n) (at + (1 + length (unsigned n))) mid
+      → (left (Size (1 + length (unsigned n) + n)) new ≡ store (externPart pool (s ∷ n ∷ [])) at old) × (length new ≡ length old)
+  bare-stored h at old room {q = q} {mid = mid} {new = new} e d =
+      let a : List ℕ = 0x00 ∷ unsigned n in
+      let b = partOf pool s n in
+      let more : length a ≡ 1 + length (unsigned n) = omega arith in
+      let size : length b ≡ n = part-length pool s n h in
+      let all : length (a ++ b) ≡ length a + n = length-append a b ∙ ap (λ k. length a + k) size in
+      let one : mid ≡ sets old at a = group.byte-then old at 0x00 (unsigned n) {all = a} refl (omega arith) e in
+      let first : left (Size (length a)) mid ≡ store a at old = ap (λ l. left (Size (length a)) l) one ∙ sym (store-fits a at old (omega arith)) in
+      let behind : left q new ≡ store b (at + length a) mid = d ∙ ap (λ k. store b (at + k) mid) (sym more) in
+      let whole : left (Size (length a + n)) new ≡ store (a ++ b) at old = stored-then a b at old size (omega arith) first behind in
+      let last : new ≡ sets old at (a ++ b) = ap (λ (x : Left). x .buffer) (whole ∙ store-fits (a ++ b) at old (omega (arith, all))) in (
+        ap (λ k. left (Size (k + n)) new) (sym more) ∙ whole ∙ ap (λ l. store l at old) (sym (bare-inside h)),
+        ap length last ∙ length-sets old at (a ++ b),
+      )
+
+  -- and no room for them
+  pub bare-none : s + n ≤ length pool → (at : ℕ) (old : List ℕ) → length old < at + (1 + length (unsigned n) + n)
+      → left (Room (1 + length (unsigned n) + n)) old ≡ store (externPart pool (s ∷ n ∷ [])) at old
+  bare-none h at old room =
+      let a : List ℕ = 0x00 ∷ unsigned n in
+      let more : length a ≡ 1 + length (unsigned n) = omega arith in
+      ap (λ k. left (Room (k + n)) old) (sym more) ∙ sym (store-none a (partOf pool s n) at old (part-length pool s n h) (omega arith))
+      ∙ ap (λ l. store l at old) (sym (bare-inside h))

@@ -10,7 +10,7 @@ use fields::Flaw;
 use numbers::Stored;
 use numbers::stored_size;
 ghost use Prim.Native.Nat.{_<_, _≤_, _+_, _^_};
-ghost use mathlib.Core.List.{_∷_};
+ghost use mathlib.Core.List.{_∷_, []};
 ghost use mathlib.Core.Path.{_≡_};
 ghost use lib.ListN.{length};
 ghost use lib.Seq.{sets};
@@ -125,8 +125,8 @@ fn put_inside(pool: &[u8], ws: &[u32], out: &mut [u8], to: usize) -> usize
     put_options(pool, ws, out, next + 1)
 }
 
-// An extern name at a place: 00 and a name, or 02, a name, a count and options; nothing where a name runs past the pool.
-pub fn put_extern(pool: &[u8], ws: &[u32], at: usize, out: &mut [u8]) -> Stored
+// An extern name at a place, with options or without.
+fn put_any(pool: &[u8], ws: &[u32], at: usize, out: &mut [u8]) -> Stored
     ensures { λ r. ⌜ left r (now (out .exit)) ≡ store (externPart (now (pool .entry)) (now (ws .entry))) at (now (out .entry)) ⌝ }
 {
     let all = part_size(pool, ws);
@@ -140,4 +140,41 @@ pub fn put_extern(pool: &[u8], ws: &[u32], at: usize, out: &mut [u8]) -> Stored
         }
     }
     Stored::Room(all)
+}
+
+// One without options, the name by itself: its tests are made once.
+fn put_bare(pool: &[u8], start: u32, size: u32, at: usize, out: &mut [u8]) -> Stored
+    ensures { λ r. ⌜ left r (now (out .exit)) ≡ store (externPart (now (pool .entry)) (start ∷ size ∷ [])) at (now (out .entry)) ⌝ }
+{
+    let from = start as usize;
+    let end = from + (size as usize);
+    if pool.len() < end {
+        return numbers::copy(&pool[0..0], at, out);
+    }
+    let head = 1 + numbers::unsigned_size(size);
+    let all = head + (size as usize);
+    if out.len() < at {
+        return Stored::Room(all);
+    }
+    if out.len() - at < all {
+        return Stored::Room(all);
+    }
+    out[at] = 0x00;
+    numbers::put_unsigned(size, at + 1, out);
+    numbers::copy(&pool[from..end], at + head, out);
+    Stored::Size(all)
+}
+
+// An extern name at a place: 00 and a name, or 02, a name, a count and options; nothing where a name runs past the pool.
+// (That `put_any` is called twice keeps it out of the way that most names take: called once it would be compiled into it.)
+pub fn put_extern(pool: &[u8], ws: &[u32], at: usize, out: &mut [u8]) -> Stored
+    ensures { λ r. ⌜ left r (now (out .exit)) ≡ store (externPart (now (pool .entry)) (now (ws .entry))) at (now (out .entry)) ⌝ }
+{
+    if ws.len() < 11 {
+        return put_any(pool, ws, at, out);
+    }
+    if is_bare(ws) {
+        return put_bare(pool, ws[0], ws[1], at, out);
+    }
+    put_any(pool, ws, at, out)
 }
