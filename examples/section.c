@@ -15,7 +15,7 @@ static void show(const char *call, tb_reply reply) {
     if (reply.number == TB_OK) {
         printf("%s: ok, %" PRIu64 " bytes\n", call, reply.value);
     } else {
-        printf("%s: refused %" PRIu32 ", value %" PRIu64 "\n", call, reply.number, reply.value);
+        printf("%s: refused %" PRIu32 ", value %" PRIu64 ", also %" PRIu32 "\n", call, reply.number, reply.value, reply.also);
         failed = 1;
     }
 }

@@ -22,7 +22,7 @@ enum {
     TB_ROW = 3,     /* row is empty, or not as long as kind and count need: 0 */
     TB_TAG = 4,     /* a word outside its list: its place */
     TB_RANGE = 5,   /* name ends past the pool: the place of its first word */
-    TB_TEXT = 6,    /* name is not UTF-8: the place of its first word; reading: the offset of its first byte */
+    TB_TEXT = 6,    /* name is not UTF-8: the place of its first word; reading: the offset of its first byte; `also` says where it stops */
     TB_TOO_BIG = 7, /* size passes 4,294,967,295: 0 */
     TB_ROOM = 8,    /* too little room: the bytes or words that the call would add */
     TB_ORDER = 9,   /* step out of turn, or an entry still open: 0 */
@@ -34,10 +34,12 @@ enum {
     TB_SHEET = 15   /* wrong version, no row, broken framing: 0 */
 };
 
-/* What every call returns. `words` is 0 but after a successful read. In a reply of tb_sheet a refusal's value is the row, from 0. */
+/* What every call returns. In a reply of tb_sheet a refusal's value is the row, from 0.
+ * `also` is the words of an item read; after TB_TEXT, of tb_sheet too, the offset in the name of the first byte at which no UTF-8 can
+ * go on, and the name's length if it merely ends early; else 0. */
 typedef struct {
     uint32_t number;
-    uint32_t words;
+    uint32_t also;
     uint64_t value;
 } tb_reply;
 
@@ -48,7 +50,7 @@ typedef struct {
 /* A whole sheet: its rows' bytes at the front of body, the finished section at the front of out. */
 tb_reply tb_sheet(const uint8_t *sheet, size_t sheet_size, uint8_t *body, size_t body_size, uint8_t *out, size_t out_size);
 
-/* The type, or the import, at the front of the input, by a reader of grade 1, 2 or 3. TB_OK: `words` words of the row are filled,
+/* The type, or the import, at the front of the input, by a reader of grade 1, 2 or 3. TB_OK: `also` words of the row are filled,
  * and `value` bytes of the input are taken. The row names its strings in the input: a name's two words are its first byte's
  * offset in the input and its length. A row of 16,384 words has room for every item that is read. */
 tb_reply tb_read_type(const uint8_t *input, size_t input_size, uint32_t grade, uint32_t *row, size_t row_words);

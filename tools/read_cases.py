@@ -105,8 +105,7 @@ class Reader:
         if length > len(self.data) - start:
             raise Refused(CUT, len(self.data))
         self.at += length
-        if not is_text(self.data[start:self.at]):
-            raise Refused(TEXT, start)
+        judge_text(self.data[start:self.at], start)
         return [start, length]
 
     def many(self, *fields):
@@ -172,15 +171,6 @@ def digits(taken):
     return sum((byte & 0x7f) << 7 * k for k, byte in enumerate(taken))
 
 
-def is_text(name):
-    """Whether the bytes are UTF-8: Python takes no surrogate, nothing overlong and nothing above 10ffff."""
-    try:
-        name.decode('utf-8')
-        return True
-    except UnicodeDecodeError:
-        return False
-
-
 PRIMITIVE_BYTES = {0x64: 13} | {0x7f - p: p for p in range(13)}
 REPS = {0x7f: [0], 0x7e: [1]}
 # Lead: kind, grade, and what follows.
@@ -206,25 +196,25 @@ TYPE_LEADS = {
 
 
 def answer(sort, data, grade, room):
-    """Number, value and words of a reading with room for so many words."""
+    """Number, value, also and words of a reading with room for so many words."""
     if len(data) > INPUT_LIMIT or grade not in (1, 2, 3):
-        return LIMIT, 0, []
+        return LIMIT, 0, 0, []
     reader = Reader(data, grade)
     try:
         words = reader.type() if sort == TYPES else reader.import_()
     except Refused as refusal:
-        return refusal.number, refusal.value, []
+        return refusal.number, refusal.value, refusal.also, []
     if len(words) > min(room, ROW_LIMIT):
-        return ROOM, len(words), []
-    return OK, reader.at, words
+        return ROOM, len(words), 0, []
+    return OK, reader.at, len(words), words
 
 
 def try_reader():
     """The model on document 01's bench table: what is written there is read back, and the readings."""
     for label, _, row, made in BENCH:
         data = bytes.fromhex(made)
-        number, taken, words = answer(sort_of(row), data, 3, len(row))
-        assert (number, taken, len(words), words[0]) == (OK, len(data), len(row), row[0]), label
+        number, taken, also, words = answer(sort_of(row), data, 3, len(row))
+        assert (number, taken, also, words[0]) == (OK, len(data), len(row), row[0]), label
         assert written(words, data) == data, label
     for sort, made, grade, told in ((TYPES, '72 01 01 78 64', 1, (NEWER, 4)), (TYPES, '63 73 79', 2, (NEWER, 0)),
                                     (TYPES, '69 80 00', 3, (NUMBER, 1)), (IMPORTS, '01 00 01 00', 3, (CODE, 0))):
@@ -252,17 +242,17 @@ seen = set()
 
 def put(label, sort, data, grade, room):
     """One case, answered by the model. What is read and not too long for a pool gives its bytes when it is written again."""
-    number, value, words = answer(sort, data, grade, room)
+    number, value, also, words = answer(sort, data, grade, room)
     if number == OK and value <= POOL_LIMIT:
         assert written(words, data[:value]) == data[:value]
     seen.add((sort, data, grade))
-    cases.append(Case(label, sort, data, grade, 0, 4 * room, number, value, struct.pack('>%dI' % len(words), *words), 0))
+    cases.append(Case(label, sort, data, grade, 0, 4 * room, number, value, also, struct.pack('>%dI' % len(words), *words), 0))
 
 
 def put_roomy(label, sort, data, grade):
     """A case with room enough, exact or with some to spare; where the input is refused, for all of it, a part or nothing."""
     if (sort, data, grade) not in seen:
-        number, _, words = answer(sort, data, grade, PLENTY)
+        number, _, _, words = answer(sort, data, grade, PLENTY)
         put(label, sort, data, grade, len(words) + dice.pick([0, 0, 1, 5]) if number == OK else dice.pick([0, 0, 1, 15, 40]))
 
 
@@ -316,7 +306,7 @@ def whole_readings(sort, data, words):
     """An item alone and followed by other bytes, at each grade, with room exact, a word short, none and plenty."""
     for follower in (b'', dice.pick([b'\0', b'\x80', b'\xff\xff', b'\1\0\1', b'\x73', data])):
         for grade in GRADES:
-            number, taken, _ = answer(sort, data, grade, words)
+            number, taken, _, _ = answer(sort, data, grade, words)
             assert (number, taken) == (OK, len(data)) or number == NEWER and grade < 3
             for room in (0, words) if number == NEWER else (words, words - 1, 0, words + 1 + dice.below(9)):
                 put('whole', sort, data + follower, grade, room)
@@ -460,6 +450,15 @@ def text_readings():
                 put_roomy('name of %d, %d there' % (length, len(there)), sort, bytes.fromhex(before) + unsigned(length) + there, 3)
 
 
+def spoilt_readings():
+    """Names that stop at each place of each line of the table of sequences: alone, within a longer name, at its end."""
+    for text in WRONG_TEXT + spoilt_texts():
+        for ahead, behind in ((0, 0), (dice.below(200), 1 + dice.below(40)), (dice.below(200), 0)):
+            sort, before, after = dice.pick(NAME_PLACES)
+            name = b''.join(dice.pick(GOOD_TEXT + [b'x'] * 20) for _ in range(ahead)) + text + b'z' * behind
+            put_roomy('name with ' + text.hex(), sort, name_bytes(before, name, dice.pick(['', 'bf']) + after), 3)
+
+
 def option_readings():
     """Every row of kinds for one to three options, and counts that are none."""
     for total in (1, 2, 3):
@@ -546,4 +545,5 @@ def readings():
     some_readings(1500)
     wide_readings()
     long_readings()
+    spoilt_readings()
     return cases

@@ -14,11 +14,11 @@ ROW_LIMIT, POOL_LIMIT = 16384, 65536
 
 
 class Refused(Exception):
-    """A refusal: its number, and what document 01 returns with it."""
+    """A refusal: its number, what document 01 returns with it, and after TEXT the byte of the name, else 0."""
 
-    def __init__(self, number, value=0):
+    def __init__(self, number, value=0, also=0):
         super().__init__(NAMES[number])
-        self.number, self.value = number, value
+        self.number, self.value, self.also = number, value, also
 
 
 def unsigned(n):
@@ -82,15 +82,47 @@ def destructor(d, index):
     return one_of(d, FLAG) + (unsigned(index) if d else zero(index))
 
 
+# The Unicode Standard's table 3-7, well-formed UTF-8 byte sequences: the first and last of each byte's range, by lines.
+WELL_FORMED = [[(int(part[:2], 16), int(part[-2:], 16)) for part in line.split()] for line in """
+    00..7f
+    c2..df 80..bf
+    e0..e0 a0..bf 80..bf
+    e1..ec 80..bf 80..bf
+    ed..ed 80..9f 80..bf
+    ee..ef 80..bf 80..bf
+    f0..f0 90..bf 80..bf 80..bf
+    f1..f3 80..bf 80..bf 80..bf
+    f4..f4 80..8f 80..bf 80..bf""".split('\n')[1:]]
+
+
+def stop(text):
+    """The byte at which no valid reading of a name can go on: one that begins no line of the table, or one outside its line's range;
+    the length of a name that ends inside a sequence. None: the name is UTF-8."""
+    at = 0
+    while at < len(text):
+        line = [line for line in WELL_FORMED if line[0][0] <= text[at] <= line[0][1]]
+        if not line:
+            return at
+        for least, most in line[0]:
+            if at == len(text) or not least <= text[at] <= most:
+                return at
+            at += 1
+    return None
+
+
+def judge_text(text, value=0):
+    """TEXT with the value and the byte, unless a name is UTF-8."""
+    at = stop(text)
+    if at is not None:
+        raise Refused(TEXT, value, at)
+
+
 def name(pool, start, length):
     """N: its range before its text."""
     if start + length > len(pool):
         raise Refused(RANGE)
     text = pool[start:start + length]
-    try:
-        text.decode('utf-8')
-    except UnicodeDecodeError:
-        raise Refused(TEXT) from None
+    judge_text(text)
     return unsigned(length) + text
 
 
@@ -265,9 +297,22 @@ INSTANCES = [
 
 
 def try_writer():
-    """The model on document 01's bench table, and on instances."""
+    """The model on document 01's bench table, on instances, and its bytes of names on those that follow from Python's decoder."""
     for label, pool, row, made in BENCH + INSTANCES:
         assert item(row, pool, family_of(row[0])) == bytes.fromhex(made), label
+    for text in GOOD_TEXT + WRONG_TEXT + spoilt_texts():
+        for name in (text, b'ab' + text, text + b'z', 'é€😀'.encode('utf-8') + text + b'zz'):
+            assert stop(name) == decoders_stop(name), name.hex()
+
+
+def decoders_stop(text):
+    """The byte by Python's decoder: the name's length if it ends early; else that behind what was right of the sequence."""
+    try:
+        text.decode('utf-8')
+        return None
+    except UnicodeDecodeError as fault:
+        return {'unexpected end of data': len(text), 'invalid start byte': fault.start,
+                'invalid continuation byte': fault.end}[fault.reason]
 
 
 # ------------------------------------------------------------------------------------------------------------------ rows
@@ -307,6 +352,17 @@ WRONG_TEXT = [bytes.fromhex(h) for h in """
     ed ed9f ed9fc0 eda080 edadbf edb080 edbfbf ee7f80 eebf ef ef80 efbf7f f0 f08080 f0808080 f08fbfbf f090 f09080 f0908041
     f09080c0 f1 f180 f18080 f1c08080 f3bfbf f3bf7fbf f4 f48f f48fbf f4908080 f4bfbfbf f5808080 f5 f7bfbfbf f8888080 f888808080
     fb fcbfbfbfbfbf fe ff feff fffe""".split()]
+
+
+def spoilt_texts():
+    """Of each line of the table of sequences and each place in it: right bytes up to there, then nothing or a byte out of range."""
+    texts = []
+    for line in WELL_FORMED:
+        for place, (least, most) in enumerate(line):
+            for end in (0, 1):
+                front = bytes(part[end] for part in line[:place])
+                texts += [front] + [front + bytes([byte]) for byte in (max(least, 1) - 1, most + 1, 0x41, 0x80, 0xc3, 0xff)]
+    return sorted({text for text in texts if stop(text) is not None})
 
 
 def named_rows(start, length):

@@ -48,7 +48,7 @@ def section_of(sheet, body_room, out_room):
         try:
             made = item(row, pool, family)
         except Refused as refusal:
-            raise Refused(refusal.number, at) from None
+            raise Refused(refusal.number, at, refusal.also) from None
         if used + len(made) > body_room:
             raise Refused(ROOM, at)
         parts.append(made)
@@ -64,12 +64,12 @@ def section_of(sheet, body_room, out_room):
 
 
 def answer(sheet, body_room, out_room):
-    """Number, value, section and body."""
+    """Number, value, also, section and body."""
     try:
         section, body = section_of(sheet, body_room, out_room)
-        return OK, len(section), section, body
+        return OK, len(section), 0, section, body
     except Refused as refusal:
-        return refusal.number, refusal.value, b'', b''
+        return refusal.number, refusal.value, refusal.also, b'', b''
 
 
 def sheet_of(pool, *rows):
@@ -83,7 +83,7 @@ def sheet_of(pool, *rows):
 def try_sheets():
     """The model on document 01's whole case."""
     whole = answer(bytes.fromhex('01 00000000 00000002 00000000 0000000c'), 32768, 65536)
-    assert whole == (OK, 4, bytes.fromhex('07020173'), b'\x73')
+    assert whole == (OK, 4, 0, bytes.fromhex('07020173'), b'\x73')
 
 
 # ------------------------------------------------------------------------------------------------------------ the sheets
@@ -94,20 +94,20 @@ cases = []
 
 def put(label, sheet, body_room, out_room):
     """One case, answered by the model."""
-    number, value, section, body = answer(sheet, body_room, out_room)
-    cases.append(Case(label, SHEETS, sheet, 0, body_room, out_room, number, value, section, len(body)))
+    number, value, also, section, body = answer(sheet, body_room, out_room)
+    cases.append(Case(label, SHEETS, sheet, 0, body_room, out_room, number, value, also, section, len(body)))
 
 
 def put_roomy(label, sheet):
     """A case with room enough, exact or with some to spare; where a row is refused, for the rows before it at least."""
-    number, at, section, body = answer(sheet, LARGEST_ROOM, LARGEST_ROOM)
+    number, at, _, section, body = answer(sheet, LARGEST_ROOM, LARGEST_ROOM)
     if number == OK:
         put(label, sheet, len(body) + dice.pick([0, 0, 1, 7]), len(section) + dice.pick([0, 0, 1, 9]))
     elif at == 0:
         put(label, sheet, dice.pick([0, 1, 40]), dice.pick([0, 3, 50]))
     else:
         pool, rows = frame_of(sheet)
-        _, _, _, before = answer(sheet_of(pool, *rows[:at]), LARGEST_ROOM, LARGEST_ROOM)
+        *_, before = answer(sheet_of(pool, *rows[:at]), LARGEST_ROOM, LARGEST_ROOM)
         put(label, sheet, len(before) + dice.pick([0, 0, 3, 60]), dice.pick([0, 5, 90]))
 
 
@@ -222,6 +222,22 @@ def text_sheets(named):
         put_roomy('mixed name', sheet_of(mixed, dice.pick(named(0, len(mixed)))))
 
 
+# A row of each family, without a name or with an empty one.
+NAMELESS = {7: [0, 12], 10: [17] + [0] * 11 + [1, 0, 0], 2: [18, 0, 0], 5: [19, 0, 0]}
+
+
+def spoilt_sheets():
+    """Names that stop at each place of each line of the table of sequences: alone, within a longer name, at its end; in the first row
+    or a later one."""
+    for text in WRONG_TEXT + spoilt_texts():
+        for ahead, behind in ((0, 0), (dice.below(200), 1 + dice.below(40)), (dice.below(200), 0)):
+            name = b''.join(dice.pick(GOOD_TEXT + [b'x'] * 20) for _ in range(ahead)) + text + b'z' * behind
+            start = dice.below(3)
+            row = dice.pick(dice.pick([named_rows, named_instances])(start, len(name)))
+            rows = [NAMELESS[family_of(row[0])]] * dice.below(3) + [row]
+            put_roomy('name with ' + text.hex(), sheet_of(b'\xff\xc3'[:start] + name + b'\xbf\x80', *rows))
+
+
 def range_sheets(named):
     """Names that end at the pool's end or past it, start past it, or whose end wraps 32 bits."""
     for pool in (b'', b'x', b'abcdef', b'\xff\xff\xff'):
@@ -298,7 +314,7 @@ def broken_frames(sheet):
 def room_sheets(rows, wrong):
     """Body and output room at, below and above what is needed, for each row; faults before and after the room is used up."""
     sheet = sheet_of(b'hello', *rows)
-    _, size, _, body = answer(sheet, LARGEST_ROOM, LARGEST_ROOM)
+    _, size, _, _, body = answer(sheet, LARGEST_ROOM, LARGEST_ROOM)
     for room in range(len(body) + 3):
         put('body room %d' % room, sheet, room, size)
         put('body room %d, output short' % room, sheet, room, size - 1)
@@ -307,7 +323,7 @@ def room_sheets(rows, wrong):
     for label, row in wrong.items():
         for at in range(len(rows) + 1):
             changed = sheet_of(b'hello', *rows[:at], row, *rows[at:])
-            before = answer(sheet_of(b'hello', *rows[:at]), LARGEST_ROOM, LARGEST_ROOM)[3]
+            *_, before = answer(sheet_of(b'hello', *rows[:at]), LARGEST_ROOM, LARGEST_ROOM)
             for room in sorted({0, max(len(before), 1) - 1, len(before), len(body)}):
                 put('%s at row %d, body room %d' % (label, at, room), changed, room, dice.pick([0, size]))
 
@@ -315,7 +331,7 @@ def room_sheets(rows, wrong):
 def short_room_sheets():
     for row in ([256 + 5], [17, 0, 5] + [0] * 9 + [1, 0, 0], [256, 1, 128, 1, 3, 16384]):
         sheet = sheet_of(b'hello', row)
-        _, size, _, body = answer(sheet, 99, 99)
+        _, size, _, _, body = answer(sheet, 99, 99)
         for less_body, less_out in ((0, 0), (1, 0), (0, 1), (1, 1), (len(body), size)):
             put('room short by %d and %d' % (less_body, less_out), sheet, len(body) - less_body, size - less_out)
 
@@ -328,7 +344,7 @@ def size_sheets():
     for total in (126, 127, 128, 129, 16382, 16383, 16384, 16385):
         row = [7, 1, 0, total - 4] if total < 130 else [7, 16] + [0, 1024] * 15 + [0, total - 15395]
         sheet = sheet_of(b'0123456789abcdef' * 64, row)
-        _, size, _, body = answer(sheet, LARGEST_ROOM, LARGEST_ROOM)
+        _, size, _, _, body = answer(sheet, LARGEST_ROOM, LARGEST_ROOM)
         assert 1 + len(body) == total
         for less_body, less_out in ((0, 0), (0, 1), (1, 0)):
             put('count and body %d bytes' % total, sheet, len(body) - less_body, size - less_out)
@@ -370,7 +386,7 @@ def some_sheets(count, families, others):
             sheet[dice.below(len(sheet))] ^= 1 << dice.below(8)
         elif change == 3 and pool:
             sheet[5 + dice.below(len(pool))] = dice.below(256)
-        number, size, _, body = answer(bytes(sheet), LARGEST_ROOM, LARGEST_ROOM)
+        number, size, _, _, body = answer(bytes(sheet), LARGEST_ROOM, LARGEST_ROOM)
         if change == 4 and number == OK:
             put('dice, less room', bytes(sheet), dice.below(len(body) + 1), size - dice.below(2))
         else:
@@ -443,4 +459,5 @@ def sheets():
     try_sheets()
     first_sheets()
     instance_sheets()
+    spoilt_sheets()
     return cases

@@ -2,7 +2,8 @@
 //!
 //! A list is laid out as tools/cases.py says; `tools/vectors FILE` puts it behind the others.
 
-use crate::damage::{needed_rooms, some_reading, some_room, some_sheet, ReadingCase, Scope};
+use crate::damage::{needed_rooms, reading_of_damaged_names, sheet_of_damaged_names, some_reading, some_room, some_sheet};
+use crate::damage::{ReadingCase, Scope};
 use crate::encode::crate_section;
 use crate::input::{family_of, Input};
 use crate::model;
@@ -31,6 +32,7 @@ pub struct Case {
     room: usize,
     number: u32,
     value: u64,
+    also: u32,
     made: Vec<u8>,
     body: usize,
 }
@@ -42,7 +44,7 @@ pub fn packed(title: &str, cases: &[Case]) -> Vec<u8> {
     list.extend((title.len() as u32).to_be_bytes());
     list.extend(title.as_bytes());
     for case in cases {
-        let Case { sort, input, grade, body_room, room, number, value, made, body } = case;
+        let Case { sort, input, grade, body_room, room, number, value, also, made, body } = case;
         let numbers = [
             *sort as usize,
             input.len(),
@@ -51,6 +53,7 @@ pub fn packed(title: &str, cases: &[Case]) -> Vec<u8> {
             *room,
             *number as usize,
             *value as usize,
+            *also as usize,
             made.len(),
             *body,
         ];
@@ -70,6 +73,9 @@ fn body_of(section: &[u8]) -> usize {
 /// The families whose cases come first, each as often as it is to be picked, and those that were added to them.
 pub const FIRST: &[u64] = &[7, 7, 7, 8, 10];
 pub const INSTANCES: &[u64] = &[2, 5];
+
+/// The families whose rows have names.
+const NAMED: &[u64] = &[7, 10, 2, 5];
 
 /// The crate's answers for some families: sections of up to six valid rows, each kind in its turn first.
 pub fn crate_answers(rng: &mut Random, families: &[u64], count: usize) -> Vec<Case> {
@@ -105,6 +111,7 @@ fn taken_sheet(input: Vec<u8>, section: Vec<u8>) -> Case {
         room: section.len(),
         number: 0,
         value: section.len() as u64,
+        also: 0,
         made: section,
         body,
     }
@@ -112,21 +119,32 @@ fn taken_sheet(input: Vec<u8>, section: Vec<u8>) -> Case {
 
 /// The model's refusals of sheets of some families, at most so many of each number.
 pub fn refused_sheets(rng: &mut Random, families: &'static [u64], tries: usize, most: usize) -> Vec<Case> {
-    let (mut counts, scope) = ([0; 16], Scope::of(families));
+    let scope = Scope::of(families);
+    refusals_of(rng, &scope, |rng| some_sheet(rng, &scope), tries, most)
+}
+
+/// The model's refusals of sheets with damaged names, at most so many of each number.
+pub fn sheets_of_damaged_names(rng: &mut Random, tries: usize, most: usize) -> Vec<Case> {
+    refusals_of(rng, &Scope::of(NAMED), sheet_of_damaged_names, tries, most)
+}
+
+/// The model's refusals of sheets that are made so, at most so many of each number.
+fn refusals_of(rng: &mut Random, scope: &Scope, make: impl Fn(&mut Random) -> Vec<u8>, tries: usize, most: usize) -> Vec<Case> {
+    let mut counts = [0; 16];
     let mut cases = Vec::new();
     for _ in 0..tries {
-        let input = some_sheet(rng, &scope);
-        let (body, out) = needed_rooms(&input, &scope);
+        let input = make(rng);
+        let (body, out) = needed_rooms(&input, scope);
         let (body_room, room) = (some_room(rng, body), some_room(rng, out));
         if input.len() > LONGEST || body_room.max(room) > LARGEST_ROOM {
             continue;
         }
         let answer = model::sheet(&input, &mut vec![0; body_room], &mut vec![0; room]);
-        if let Err(Refused { why, value }) = answer {
+        if let Err(Refused { why, value, also }) = answer {
             counts[why as usize] += 1;
             if counts[why as usize] <= most {
                 let (sort, number) = (Sort::Sheet, why as u32);
-                cases.push(Case { sort, input, grade: 0, body_room, room, number, value, made: Vec::new(), body: 0 });
+                cases.push(Case { sort, input, grade: 0, body_room, room, number, value, also, made: Vec::new(), body: 0 });
             }
         }
     }
@@ -135,11 +153,21 @@ pub fn refused_sheets(rng: &mut Random, families: &'static [u64], tries: usize, 
 
 /// The model's readings of types and imports, at most so many of each number for either.
 pub fn readings(rng: &mut Random, tries: usize, most: usize) -> Vec<Case> {
+    readings_by(rng, some_reading, tries, most)
+}
+
+/// The model's readings of encodings with damaged names, at most so many of each number for types and for imports.
+pub fn readings_of_damaged_names(rng: &mut Random, tries: usize, most: usize) -> Vec<Case> {
+    readings_by(rng, reading_of_damaged_names, tries, most)
+}
+
+/// The model's readings that are made so, at most so many of each number for types and for imports.
+fn readings_by(rng: &mut Random, make: fn(&mut Random, &mut [u32]) -> ReadingCase, tries: usize, most: usize) -> Vec<Case> {
     let mut counts = [[0; 16]; 2];
     let mut cases = Vec::new();
     let mut words = vec![0; 16_384];
     for _ in 0..tries {
-        let case = some_reading(rng, &mut words);
+        let case = make(rng, &mut words);
         if case.input.len() > LONGEST || case.room > LARGEST_ROOM / 4 {
             continue;
         }
@@ -158,11 +186,11 @@ fn reading(case: ReadingCase) -> Case {
     let ReadingCase { import, input, grade, room } = case;
     let mut row = vec![0; room];
     let answer = if import { model::read_import(&input, grade, &mut row) } else { model::read_type(&input, grade, &mut row) };
-    let (number, value, words) = match answer {
-        Ok(Item { words, taken }) => (0, taken as u64, words),
-        Err(Refused { why, value }) => (why as u32, value, 0),
+    let (number, value, also, words) = match answer {
+        Ok(Item { words, taken }) => (0, taken as u64, words as u32, words),
+        Err(Refused { why, value, also }) => (why as u32, value, also, 0),
     };
     let made = row[..words].iter().flat_map(|word| word.to_be_bytes()).collect();
     let sort = if import { Sort::Import } else { Sort::Type };
-    Case { sort, input, grade, body_room: 0, room: 4 * room, number, value, made, body: 0 }
+    Case { sort, input, grade, body_room: 0, room: 4 * room, number, value, also, made, body: 0 }
 }

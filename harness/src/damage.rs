@@ -2,7 +2,7 @@
 
 use crate::input::{family_of, frame};
 use crate::model;
-use crate::random::{valid_row, Random, KINDS};
+use crate::random::{row_of_damaged_names, valid_row, Random, KINDS};
 use crate::report::{Difference, Table};
 use crate::tbaunarith::{self, Item, Refusal, Refused};
 use std::collections::BTreeMap;
@@ -425,6 +425,26 @@ pub(crate) fn some_sheet(rng: &mut Random, scope: &Scope) -> Vec<u8> {
     sheet
 }
 
+/// The kinds with names.
+const NAMED: [u32; 10] = [1, 2, 7, 8, 15, 17, 18, 19, 20, 21];
+
+/// A sheet of rows that are valid but for names that are not UTF-8.
+pub(crate) fn sheet_of_damaged_names(rng: &mut Random) -> Vec<u8> {
+    let kind = *rng.pick(&NAMED);
+    let kinds: Vec<u32> = NAMED.iter().copied().filter(|other| family_of(*other) == family_of(kind)).collect();
+    let mut pool = if rng.one_in(4) { rng.any_name() } else { Vec::new() };
+    let mut rows = Vec::new();
+    for _ in 0..rng.below(3) {
+        let other = *rng.pick(&kinds);
+        rows.push(valid_row(rng, other, &mut pool));
+    }
+    rows.push(row_of_damaged_names(rng, kind, &mut pool));
+    if rng.one_in(4) {
+        rows.push(row_of_damaged_names(rng, kind, &mut pool));
+    }
+    frame(&pool, &rows)
+}
+
 /// The rooms of body and output that a sheet needs, as far as its rows are some family's.
 pub(crate) fn needed_rooms(sheet: &[u8], scope: &Scope) -> (usize, usize) {
     let Some((pool, rows)) = model::unframe(sheet) else { return (4, 8) };
@@ -444,7 +464,7 @@ pub(crate) fn needed_rooms(sheet: &[u8], scope: &Scope) -> (usize, usize) {
 pub fn sheets(rng: &mut Random, count: u64) -> Result<Tally, String> {
     let (mut tally, scope) = (Tally::default(), Scope::whole());
     for _ in 0..count {
-        let sheet = some_sheet(rng, &scope);
+        let sheet = if rng.one_in(8) { sheet_of_damaged_names(rng) } else { some_sheet(rng, &scope) };
         let (body, out) = needed_rooms(&sheet, &scope);
         let case = SheetCase { sheet, body_room: some_room(rng, body), out_room: some_room(rng, out) };
         let (answer, differs) = case.run();
@@ -548,14 +568,70 @@ fn made_up_encoding(rng: &mut Random) -> Vec<u8> {
     (0..count).map(|_| if rng.one_in(3) { rng.below(4) as u8 } else { *rng.pick(&TELLING_BYTES) }).collect()
 }
 
-/// A reading: an encoding, mostly damaged, with a tail; any grade; a room from 0 to enough.
+/// What stands behind a name of an entry, by the lead byte of the type, and behind the entries.
+const NAMED_TYPES: [(u8, &[u8], &[u8]); 6] = [
+    (0x72, &[0x73], &[]),
+    (0x71, &[0x00, 0x00], &[]),
+    (0x6e, &[], &[]),
+    (0x6d, &[], &[]),
+    (0x40, &[0x05], &[0x01, 0x00]),
+    (0x43, &[0x7f], &[0x00, 0x73]),
+];
+
+/// An encoding that is right but for names that are not UTF-8; whether it is an import's.
+fn encoding_of_damaged_names(rng: &mut Random) -> (bool, Vec<u8>) {
+    let mut bytes = Vec::new();
+    if rng.one_in(3) {
+        let options = rng.below(4);
+        bytes.push(if options == 0 { 0x00 } else { 0x02 });
+        any_damaged_name(rng, &mut bytes);
+        if options > 0 {
+            bytes.push(options as u8);
+        }
+        for option in 0..options {
+            bytes.push(option as u8);
+            any_damaged_name(rng, &mut bytes);
+        }
+        bytes.extend([0x01, 0x00]);
+        return (true, bytes);
+    }
+    let (lead, entry_end, end) = *rng.pick(&NAMED_TYPES);
+    let count = 1 + rng.below(4);
+    bytes.extend([lead, count as u8]);
+    for _ in 0..count {
+        any_damaged_name(rng, &mut bytes);
+        bytes.extend(entry_end);
+    }
+    bytes.extend(end);
+    (false, bytes)
+}
+
+/// A name with its length, right or damaged.
+fn any_damaged_name(rng: &mut Random, bytes: &mut Vec<u8>) {
+    let name = if rng.one_in(2) { rng.name() } else { rng.damaged_name() };
+    model::write_unsigned(name.len() as u32, bytes);
+    bytes.extend(name);
+}
+
+/// A reading of an encoding whose names are damaged.
+pub(crate) fn reading_of_damaged_names(rng: &mut Random, words: &mut [u32]) -> ReadingCase {
+    let (import, input) = encoding_of_damaged_names(rng);
+    reading_of(rng, import, input, words)
+}
+
+/// A reading of an encoding, mostly damaged.
 pub(crate) fn some_reading(rng: &mut Random, words: &mut [u32]) -> ReadingCase {
-    let (mut import, mut input) = match rng.below(16) {
+    let (import, mut input) = match rng.below(16) {
         0 => (rng.one_in(2), made_up_encoding(rng)),
         _ if rng.one_in(4000) => (false, long_encoding(rng)),
         _ => some_encoding(rng),
     };
     (0..rng.below(3)).for_each(|_| damage_bytes(rng, &mut input));
+    reading_of(rng, import, input, words)
+}
+
+/// A reading of these bytes with a tail; any grade; a room from 0 to enough.
+fn reading_of(rng: &mut Random, mut import: bool, mut input: Vec<u8>, words: &mut [u32]) -> ReadingCase {
     if rng.one_in(2) {
         let count = rng.below(6);
         input.extend(rng.bytes(count));
@@ -565,7 +641,7 @@ pub(crate) fn some_reading(rng: &mut Random, words: &mut [u32]) -> ReadingCase {
     let answer = if import { model::read_import(&input, 3, words) } else { model::read_type(&input, 3, words) };
     let needed = match answer {
         Ok(item) => item.words,
-        Err(Refused { why: Refusal::Room, value }) => value as usize,
+        Err(Refused { why: Refusal::Room, value, .. }) => value as usize,
         Err(_) => 8,
     };
     let room = if rng.one_in(500) { 16_383 + rng.below(2000) } else { some_room(rng, needed) };
@@ -577,7 +653,8 @@ pub fn readings(rng: &mut Random, count: u64) -> Result<Tally, String> {
     let mut tally = Tally::default();
     let mut words = vec![0; 16_384];
     for _ in 0..count {
-        let case = some_reading(rng, &mut words);
+        let case =
+            if rng.one_in(8) { reading_of_damaged_names(rng, &mut words) } else { some_reading(rng, &mut words) };
         let (answer, differs) = case.run();
         if differs.is_some() {
             return Err(case.smallest());
@@ -760,6 +837,9 @@ impl StepsCase {
 /// Words and pool of a valid row, sometimes damaged, seldom about as long as they may be.
 fn some_words(rng: &mut Random, scope: &Scope, kind: u32) -> (Vec<u32>, Vec<u8>) {
     let mut pool = if rng.one_in(4) { rng.any_name() } else { Vec::new() };
+    if rng.one_in(8) {
+        return (row_of_damaged_names(rng, kind, &mut pool), pool);
+    }
     let mut words = valid_row(rng, kind, &mut pool);
     if rng.one_in(4) {
         damage_row(rng, scope, &mut words, &pool);
@@ -786,7 +866,7 @@ fn some_row(rng: &mut Random, scope: &Scope, family: u64) -> Call {
 /// The calls of a function in steps; they may end by taking it back.
 fn some_function(rng: &mut Random, scope: &Scope) -> Vec<Call> {
     let mut pool = Vec::new();
-    let row = valid_row(rng, 15, &mut pool);
+    let row = if rng.one_in(8) { row_of_damaged_names(rng, 15, &mut pool) } else { valid_row(rng, 15, &mut pool) };
     let mut words = row[2..row.len() - 2].to_vec();
     if rng.one_in(6) {
         damage_row(rng, scope, &mut words, &pool);
@@ -1050,8 +1130,14 @@ pub fn largest_rows() -> Result<Tally, String> {
 
 // Small inputs, all of them.
 
+/// The bytes at the ends of the ranges of UTF-8.
+pub(crate) const ENDS_OF_UTF8: [u8; 23] = [
+    0x00, 0x41, 0x7f, 0x80, 0x8f, 0x90, 0x9f, 0xa0, 0xbf, 0xc0, 0xc1, 0xc2, 0xdf, 0xe0, 0xe1, 0xec, 0xed, 0xee, 0xef,
+    0xf0, 0xf3, 0xf4, 0xf5,
+];
+
 /// Every list of up to `longest` bytes from an alphabet, handed to a call until it says that something differs.
-fn every_list(
+pub(crate) fn every_list(
     alphabet: &[u8],
     longest: usize,
     call: &mut dyn FnMut(&[u8]) -> Result<(), String>,
@@ -1093,11 +1179,7 @@ pub fn small_rows() -> Result<Tally, String> {
             }
         }
     }
-    const ENDS: [u8; 23] = [
-        0x00, 0x41, 0x7f, 0x80, 0x8f, 0x90, 0x9f, 0xa0, 0xbf, 0xc0, 0xc1, 0xc2, 0xdf, 0xe0, 0xe1, 0xec, 0xed, 0xee,
-        0xef, 0xf0, 0xf3, 0xf4, 0xf5,
-    ];
-    every_list(&ENDS, 4, &mut |name| {
+    every_list(&ENDS_OF_UTF8, 4, &mut |name| {
         let row = vec![7, 1, 0, name.len() as u32];
         one_call(7, Call::Row { row, pool: name.to_vec() }, &mut tally)
     })?;

@@ -32,7 +32,9 @@ enum Fault {
 impl Display for Fault {
     fn fmt(&self, to: &mut fmt::Formatter) -> fmt::Result {
         match self {
-            Fault::Refused { step, refused } => write!(to, "{step} refused: {:?}, value {}", refused.why, refused.value),
+            Fault::Refused { step, refused: Refused { why, value, also } } => {
+                write!(to, "{step} refused: {why:?}, value {value}, also {also}")
+            }
             Fault::Told(text) => write!(to, "{text}"),
         }
     }
@@ -224,7 +226,7 @@ fn refusal(step: &str) -> impl Fn(Refused) -> Fault + '_ {
 
 /// The answer ROOM of a step that would add this many bytes.
 fn needs_room(step: &str, size: usize) -> Answer {
-    Err(refusal(step)(Refused { why: Refusal::Room, value: size as u64 }))
+    Err(refusal(step)(Refused { why: Refusal::Room, value: size as u64, also: 0 }))
 }
 
 /// The size of a finished section's body: what follows id, size and count.

@@ -25,7 +25,7 @@ impl Growing {
     /// A step with the body. One that finds too little room says how much it needs, gets that, and is tried again.
     pub fn step(&mut self, step: impl Fn(&mut Section, &mut [u8]) -> Result<usize, Refused>) -> Result<usize, Refused> {
         match step(&mut self.section, &mut self.body) {
-            Err(Refused { why: Refusal::Room, value }) => {
+            Err(Refused { why: Refusal::Room, value, .. }) => {
                 self.body.resize(2 * self.section.used() + value as usize, 0);
                 step(&mut self.section, &mut self.body)
             }
@@ -36,7 +36,7 @@ impl Growing {
     /// The finished section, whose size a try without room tells.
     pub fn finish(&mut self) -> Result<Vec<u8>, Refused> {
         let size = match self.section.finish(&self.body, &mut []) {
-            Err(Refused { why: Refusal::Room, value }) => value as usize,
+            Err(Refused { why: Refusal::Room, value, .. }) => value as usize,
             reply => reply?,
         };
         let mut out = vec![0; size];

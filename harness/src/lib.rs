@@ -11,6 +11,7 @@ pub mod input;
 pub mod lean;
 pub mod loads;
 pub mod model;
+pub mod names;
 pub mod random;
 pub mod reading;
 pub mod report;

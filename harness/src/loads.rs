@@ -335,8 +335,9 @@ mod tests {
             Growing::of_rows(TYPES, &input.rows, &input.pool).map(|_| ())
         });
         let field = 2 + 4 * (LONG_RECORD as u64 - 1);
-        let [tag, text] = [(Refusal::Tag, field + 2), (Refusal::Text, field)].map(|(why, value)| Err(Refused { why, value }));
-        assert_eq!(answers, [Ok(()), tag, text]);
+        let tag = Refused { why: Refusal::Tag, value: field + 2, also: 0 };
+        let text = Refused { why: Refusal::Text, value: field, also: 7 };
+        assert_eq!(answers, [Ok(()), Err(tag), Err(text)]);
     }
 
     #[test]

@@ -1,6 +1,7 @@
 //! Document 01 as a model in plain Rust: what each call answers and changes, made to be laid beside the paper.
 
 use crate::tbaunarith::{Item, Refusal, Refused};
+use std::ops::RangeInclusive;
 
 // "Numbers on the wall": a row's words, a pool's bytes, a reader's input; and "The sheet": a sheet's bytes.
 const ROW_WORDS: usize = 16_384;
@@ -26,13 +27,13 @@ const PARAMS_GIVEN: u64 = 3;
 
 /// A refusal with the value that the table of numbers returns with it.
 fn refused<T>(why: Refusal, value: usize) -> Result<T, Refused> {
-    Err(Refused { why, value: value as u64 })
+    Err(Refused { why, value: value as u64, also: 0 })
 }
 
 // Numbers and names.
 
 /// Counts, lengths and indices: shortest unsigned LEB128.
-fn write_unsigned(number: u32, bytes: &mut Vec<u8>) {
+pub fn write_unsigned(number: u32, bytes: &mut Vec<u8>) {
     let mut rest = number;
     while rest > 0x7f {
         bytes.push(0x80 | (rest & 0x7f) as u8);
@@ -51,9 +52,44 @@ fn write_signed(number: u32, bytes: &mut Vec<u8>) {
     bytes.push(rest as u8);
 }
 
-/// UTF-8 by the core document: no surrogates, no overlong forms, at most 10ffff.
-fn is_text(bytes: &[u8]) -> bool {
-    std::str::from_utf8(bytes).is_ok()
+/// The Unicode Standard's table 3-7, well-formed UTF-8 byte sequences: each line's ranges of the first byte, the second and so on.
+const WELL_FORMED: [&[RangeInclusive<u8>]; 9] = [
+    &[0x00..=0x7f],
+    &[0xc2..=0xdf, 0x80..=0xbf],
+    &[0xe0..=0xe0, 0xa0..=0xbf, 0x80..=0xbf],
+    &[0xe1..=0xec, 0x80..=0xbf, 0x80..=0xbf],
+    &[0xed..=0xed, 0x80..=0x9f, 0x80..=0xbf],
+    &[0xee..=0xef, 0x80..=0xbf, 0x80..=0xbf],
+    &[0xf0..=0xf0, 0x90..=0xbf, 0x80..=0xbf, 0x80..=0xbf],
+    &[0xf1..=0xf3, 0x80..=0xbf, 0x80..=0xbf, 0x80..=0xbf],
+    &[0xf4..=0xf4, 0x80..=0x8f, 0x80..=0xbf, 0x80..=0xbf],
+];
+
+/// Wish 3: the byte of a name at which no valid reading can go on, if it is not UTF-8. That is one that begins no line of the
+/// table, or one outside its line's range; where the name ends inside a sequence, it is the name's length.
+pub fn stops_at(name: &[u8]) -> Option<usize> {
+    let mut place = 0;
+    while let Some(first) = name.get(place) {
+        let begins = |line: &&&[RangeInclusive<u8>]| line.first().is_some_and(|range| range.contains(first));
+        let Some(line) = WELL_FORMED.iter().find(begins) else {
+            return Some(place);
+        };
+        for range in *line {
+            match name.get(place) {
+                Some(byte) if range.contains(byte) => place += 1,
+                _ => return Some(place),
+            }
+        }
+    }
+    None
+}
+
+/// A name is UTF-8; else TEXT at the name's place, with the byte.
+fn judge_text(name: &[u8], place: usize) -> Result<(), Refused> {
+    match stops_at(name) {
+        Some(byte) => Err(Refused { why: Refusal::Text, value: place as u64, also: byte as u32 }),
+        None => Ok(()),
+    }
 }
 
 // Kinds.
@@ -241,9 +277,7 @@ impl Fields<'_> {
         let Some(name) = self.pool.get(start as usize..end) else {
             return refused(Refusal::Range, place);
         };
-        if !is_text(name) {
-            return refused(Refusal::Text, place);
-        }
+        judge_text(name, place)?;
         write_unsigned(length, &mut self.bytes);
         self.bytes.extend_from_slice(name);
         Ok(())
@@ -698,7 +732,7 @@ fn section_front(family: u64, count: u64, body_size: usize) -> Result<Vec<u8>, R
 
 // The sheet.
 
-/// A whole sheet: LIMIT, SHEET, the rows in order, the output. A refusal's value is the row, from 0.
+/// A whole sheet: LIMIT, SHEET, the rows in order, the output. A refusal's value is the row, from 0; its byte is the row's.
 pub fn sheet(sheet: &[u8], body: &mut [u8], out: &mut [u8]) -> Result<usize, Refused> {
     if sheet.len() > SHEET_BYTES {
         return refused(Refusal::Limit, 0);
@@ -711,7 +745,7 @@ pub fn sheet(sheet: &[u8], body: &mut [u8], out: &mut [u8]) -> Result<usize, Ref
     let family = first_kind.and_then(|kind| family_of(*kind)).unwrap_or(TYPES);
     let mut written = Vec::new();
     for (place, row) in rows.iter().enumerate() {
-        let refusal_here = |refusal: Refused| Refused { why: refusal.why, value: place as u64 };
+        let refusal_here = |refusal: Refused| Refused { value: place as u64, ..refusal };
         let bytes = write_row(family, row, pool).map_err(refusal_here)?;
         if bytes.len() > body.len() - written.len() {
             return refused(Refusal::Room, place);
@@ -719,7 +753,7 @@ pub fn sheet(sheet: &[u8], body: &mut [u8], out: &mut [u8]) -> Result<usize, Ref
         written.extend_from_slice(&bytes);
     }
     let section = Section { used: written.len() as u64, count: rows.len() as u64, ..Section::new(family) };
-    let refusal_after = |refusal: Refused| Refused { why: refusal.why, value: rows.len() as u64 };
+    let refusal_after = |refusal: Refused| Refused { value: rows.len() as u64, ..refusal };
     let size = section.finish(&written, out).map_err(refusal_after)?;
     if let Some(front) = body.get_mut(..written.len()) {
         front.copy_from_slice(&written);
@@ -906,9 +940,7 @@ impl<'a> Reader<'a> {
         let Some(name) = self.input.get(start..end) else {
             return refused(Refusal::Cut, self.input.len());
         };
-        if !is_text(name) {
-            return refused(Refusal::Text, start);
-        }
+        judge_text(name, start)?;
         self.place = end;
         Ok((start as u32, length))
     }
@@ -1228,11 +1260,6 @@ mod tests {
         write_row(family, &row[..item.words], &input[..item.taken])
     }
 
-    /// What is returned for a refusal.
-    fn refusal(why: Refusal, value: u64) -> Result<Item, Refused> {
-        Err(Refused { why, value })
-    }
-
     #[test]
     fn bench_items_are_written() {
         for (family, row, pool, bytes) in BENCH {
@@ -1244,9 +1271,8 @@ mod tests {
     fn instances_are_written() {
         for (family, row, bytes) in INSTANCE_ROWS {
             assert_eq!(write_row(*family, row, b"foo1"), Ok(bytes.to_vec()));
-            let kind = Err(Refused { why: Refusal::Kind, value: 0 });
-            assert_eq!(write_row(7 - *family, row, b"foo1"), kind);
-            assert_eq!(write_row(7, row, b"foo1"), kind);
+            assert_eq!(write_row(7 - *family, row, b"foo1"), refused(Refusal::Kind, 0));
+            assert_eq!(write_row(7, row, b"foo1"), refused(Refusal::Kind, 0));
         }
     }
 
@@ -1278,7 +1304,7 @@ mod tests {
             (5, with(1, 2), Refusal::Row, 0),
         ];
         for (family, row, why, value) in refusals {
-            assert_eq!(write_row(family, &row, b"foo1"), Err(Refused { why, value }), "{row:?}");
+            assert_eq!(write_row(family, &row, b"foo1"), refused(why, value), "{row:?}");
         }
     }
 
@@ -1287,7 +1313,7 @@ mod tests {
         for family in [2, 5] {
             let mut body = [0; 16];
             let mut section = Section::new(family);
-            let refused = |why: Refusal| Err(Refused { why, value: 0 });
+            let refused = |why: Refusal| refused(why, 0);
             assert_eq!(section.open(&mut body), refused(Refusal::Kind));
             assert_eq!(section.make_async(1, &mut body), refused(Refusal::Order));
             assert_eq!(section.params(&[0], &[], &mut body), refused(Refusal::Order));
@@ -1317,7 +1343,7 @@ mod tests {
             assert_eq!(out, section);
         }
         let mixed = sheet_of(&[&[18, 0, 0], &[19, 0, 0]]);
-        assert_eq!(sheet(&mixed, &mut [0; 8], &mut [0; 8]), Err(Refused { why: Refusal::Kind, value: 1 }));
+        assert_eq!(sheet(&mixed, &mut [0; 8], &mut [0; 8]), refused(Refusal::Kind, 1));
     }
 
     #[test]
@@ -1333,13 +1359,13 @@ mod tests {
     fn bench_readings() {
         let mut row = [0; 64];
         // record x error-context, read at grade 1
-        assert_eq!(read_type(&[0x72, 0x01, 0x01, 0x78, 0x64], 1, &mut row), refusal(Refusal::Newer, 4));
+        assert_eq!(read_type(&[0x72, 0x01, 0x01, 0x78, 0x64], 1, &mut row), refused(Refusal::Newer, 4));
         // map string to u32, read at grade 2
-        assert_eq!(read_type(&[0x63, 0x73, 0x79], 2, &mut row), refusal(Refusal::Newer, 0));
+        assert_eq!(read_type(&[0x63, 0x73, 0x79], 2, &mut row), refused(Refusal::Newer, 0));
         // own 0 as 69 80 00
-        assert_eq!(read_type(&[0x69, 0x80, 0x00], 3, &mut row), refusal(Refusal::Number, 1));
+        assert_eq!(read_type(&[0x69, 0x80, 0x00], 3, &mut row), refused(Refusal::Number, 1));
         // import lead 01
-        assert_eq!(read_import(&[0x01, 0x01, 0x66, 0x01, 0x00], 3, &mut row), refusal(Refusal::Code, 0));
+        assert_eq!(read_import(&[0x01, 0x01, 0x66, 0x01, 0x00], 3, &mut row), refused(Refusal::Code, 0));
         assert_eq!(row, [0; 64]);
     }
 
@@ -1351,30 +1377,68 @@ mod tests {
         assert_eq!(sheet(&input, &mut body, &mut out), Ok(4));
         assert_eq!(body, [0x73, 0xa5, 0xa5]);
         assert_eq!(out, [0x07, 0x02, 0x01, 0x73, 0x5a, 0x5a]);
-        assert_eq!(sheet(&input, &mut [], &mut out), Err(Refused { why: Refusal::Room, value: 0 }));
-        assert_eq!(sheet(&input, &mut body, &mut [0; 3]), Err(Refused { why: Refusal::Room, value: 1 }));
+        assert_eq!(sheet(&input, &mut [], &mut out), refused(Refusal::Room, 0));
+        assert_eq!(sheet(&input, &mut body, &mut [0; 3]), refused(Refusal::Room, 1));
     }
 
     #[test]
     fn numbers_end_before_they_are_judged() {
         let mut row = [0; 8];
-        assert_eq!(read_type(&[0x69, 0xff, 0xff, 0xff, 0xff], 1, &mut row), refusal(Refusal::Cut, 5));
-        assert_eq!(read_type(&[0x69, 0xff, 0xff, 0xff, 0xff, 0x80], 1, &mut row), refusal(Refusal::Number, 1));
-        assert_eq!(read_type(&[0x69, 0xff, 0xff, 0xff, 0xff, 0x1f], 1, &mut row), refusal(Refusal::Number, 1));
-        assert_eq!(read_type(&[0x70, 0xff, 0x7f], 1, &mut row), refusal(Refusal::Number, 1));
-        assert_eq!(read_type(&[0x70, 0xbf, 0x00], 1, &mut row), refusal(Refusal::Number, 1));
-        assert_eq!(read_type(&[0x6d, 0x01, 0x02, 0xff], 1, &mut row), refusal(Refusal::Cut, 4));
-        assert_eq!(read_type(&[0x6d, 0x01, 0x01, 0xff], 1, &mut row), refusal(Refusal::Text, 3));
+        assert_eq!(read_type(&[0x69, 0xff, 0xff, 0xff, 0xff], 1, &mut row), refused(Refusal::Cut, 5));
+        assert_eq!(read_type(&[0x69, 0xff, 0xff, 0xff, 0xff, 0x80], 1, &mut row), refused(Refusal::Number, 1));
+        assert_eq!(read_type(&[0x69, 0xff, 0xff, 0xff, 0xff, 0x1f], 1, &mut row), refused(Refusal::Number, 1));
+        assert_eq!(read_type(&[0x70, 0xff, 0x7f], 1, &mut row), refused(Refusal::Number, 1));
+        assert_eq!(read_type(&[0x70, 0xbf, 0x00], 1, &mut row), refused(Refusal::Number, 1));
+        assert_eq!(read_type(&[0x6d, 0x01, 0x02, 0xff], 1, &mut row), refused(Refusal::Cut, 4));
+        assert_eq!(read_type(&[0x6d, 0x01, 0x01, 0xff], 1, &mut row), refused(Refusal::Text, 3));
+    }
+
+    /// Bytes that are no UTF-8, and the byte at which that is seen.
+    const STOPS: &[(&[u8], u32)] = &[
+        // Nothing begins so; an overlong form, a surrogate and a number past 10ffff are seen at their second byte.
+        (b"\x80", 0),
+        (b"ab\xff", 2),
+        (b"\xc0\x80", 0),
+        (b"\xe0\x9f\xbf", 1),
+        (b"a\xed\xa0\x80", 2),
+        (b"\xf4\x90\x80\x80", 1),
+        (b"\xf5\x80\x80\x80", 0),
+        // A second, third and fourth byte that does not go on.
+        (b"\xc3a", 1),
+        (b"\xe2\x82\xc2\x80", 2),
+        (b"\xf0\x9f\x98a", 3),
+        // The name ends early.
+        (b"\xc3", 1),
+        (b"abc\xe2\x82", 5),
+        (b"\xf0\x9f\x98", 3),
+    ];
+
+    #[test]
+    fn names_stop_at_a_byte() {
+        for (name, byte) in STOPS {
+            let text = |value: u64| Refused { why: Refusal::Text, value, also: *byte };
+            let length = name.len() as u32;
+            assert_eq!(write_row(7, &[7, 2, 0, 0, 0, length], name), Err(text(4)));
+            let mut section = Section::from_state([7, 0, 1, OPENED, 0]);
+            assert_eq!(section.params(&[1, 0, length, 0, 12], name, &mut []), Err(text(1)));
+            let rows = [0u32, 2, 0, 12, 4, 7, 1, 0, length].map(u32::to_be_bytes).concat();
+            let in_sheet = [&[1, 0, 0, 0, length as u8], *name, &rows[4..]].concat();
+            assert_eq!(sheet(&in_sheet, &mut [0; 1], &mut []), Err(text(1)));
+            let input = [&[0x6d, 0x01, length as u8], *name].concat();
+            assert_eq!(read_type(&input, 1, &mut []), Err(text(3)));
+            let import = [&[0x00, length as u8], *name].concat();
+            assert_eq!(read_import(&import, 1, &mut []), Err(text(2)));
+        }
     }
 
     #[test]
     fn a_long_item_gets_room() {
         let mut input = vec![0x6f, 0x80, 0x40];
         input.resize(3 + 8192, 0x7f);
-        assert_eq!(read_type(&input, 1, &mut [0; 20_000]), refusal(Refusal::Room, 16_386));
+        assert_eq!(read_type(&input, 1, &mut [0; 20_000]), refused(Refusal::Room, 16_386));
         input[1..3].copy_from_slice(&[0xff, 0x3f]);
         assert_eq!(read_type(&input, 1, &mut [0; 20_000]), Ok(Item { words: 16_384, taken: 8_194 }));
-        assert_eq!(read_type(&input, 1, &mut [0; 16_383]), refusal(Refusal::Room, 16_384));
+        assert_eq!(read_type(&input, 1, &mut [0; 16_383]), refused(Refusal::Room, 16_384));
     }
 
     #[test]
@@ -1384,7 +1448,7 @@ mod tests {
         assert_eq!(section.open(&mut body), Ok(0));
         assert_eq!(section.params(&[1, 0, 1, 0, 12], b"a", &mut body), Ok(5));
         assert_eq!(section.state(), [7, 5, 1, 3, 0]);
-        assert_eq!(section.result(2, 1, &mut body), Err(Refused { why: Refusal::Tag, value: 1 }));
+        assert_eq!(section.result(2, 1, &mut body), refused(Refusal::Tag, 1));
         assert_eq!(section.result(2, 0, &mut body), Ok(2));
         assert_eq!(section.open(&mut body), Ok(0));
         assert_eq!(section.state(), [7, 7, 2, 1, 7]);

@@ -160,6 +160,74 @@ impl Random {
         name
     }
 
+    /// A byte that may go on in a sequence of UTF-8.
+    fn going_on(&mut self) -> u8 {
+        0x80 + self.below(0x40) as u8
+    }
+
+    /// Bytes of which no sequence of UTF-8 is made: stray, overlong, surrogate, too large, cut off, or with another byte than may
+    /// go on.
+    fn wrong_sequence(&mut self) -> Vec<u8> {
+        let tail = [self.going_on(), self.going_on(), self.going_on()];
+        let front = match self.below(9) {
+            0 => return vec![self.going_on()],
+            1 => vec![0xc0 + self.below(2) as u8],
+            2 => vec![0xe0, 0x80 + self.below(0x20) as u8],
+            3 => vec![0xf0, 0x80 + self.below(0x10) as u8],
+            4 => vec![0xed, 0xa0 + self.below(0x20) as u8],
+            5 => vec![0xf4, 0x90 + self.below(0x30) as u8],
+            6 => vec![0xf5 + self.below(11) as u8],
+            kind => return self.spoilt_character(kind == 7),
+        };
+        let size = front.len() + self.below(4);
+        [front, tail.to_vec()].concat()[..size].to_vec()
+    }
+
+    /// A character of several bytes without its end, or with another byte in the place of one that goes on.
+    fn spoilt_character(&mut self, cut: bool) -> Vec<u8> {
+        let letter = loop {
+            let letter = self.character();
+            if letter.len_utf8() > 1 {
+                break letter;
+            }
+        };
+        let mut bytes = letter.to_string().into_bytes();
+        let place = 1 + self.below(bytes.len() - 1);
+        match cut {
+            true => bytes.truncate(place),
+            false => bytes[place] = *self.pick(&[0x00, 0x41, 0x7f, 0x80, 0xbf, 0xc0, 0xc2, 0xe1, 0xf0, 0xff]),
+        }
+        bytes
+    }
+
+    /// Text for a name's front or back: letters in runs and characters; seldom long.
+    fn text(&mut self) -> Vec<u8> {
+        let mut text = String::new();
+        for _ in 0..self.below(5) {
+            match self.below(2) {
+                0 => (0..self.below(20)).for_each(|_| text.push(char::from(b'a' + self.below(26) as u8))),
+                _ => text.push(self.character()),
+            }
+        }
+        let more = match self.below(4096) {
+            0 => self.below(30_000),
+            1..=64 => self.below(400),
+            _ => 0,
+        };
+        (0..more).for_each(|_| text.push('n'));
+        text.into_bytes()
+    }
+
+    /// A name that is mostly not UTF-8, for what stands in its middle or at its end.
+    pub fn damaged_name(&mut self) -> Vec<u8> {
+        let mut name = self.text();
+        name.extend(self.wrong_sequence());
+        if self.one_in(2) {
+            name.extend(self.text());
+        }
+        name
+    }
+
     /// How many entries: mostly few, sometimes up to 200, seldom up to `most`.
     fn entries(&mut self, most: usize) -> usize {
         if self.one_in(4096) {
@@ -182,6 +250,11 @@ impl Random {
 /// A kind that is not of `KINDS` gives a row of that word alone.
 pub fn valid_row(rng: &mut Random, kind: u32, pool: &mut Vec<u8>) -> Vec<u32> {
     row_of(kind, &mut Edges { rng, pool })
+}
+
+/// A row of a kind that is valid but for its names, of which some are not UTF-8.
+pub fn row_of_damaged_names(rng: &mut Random, kind: u32, pool: &mut Vec<u8>) -> Vec<u32> {
+    row_of(kind, &mut DamagedNames(Edges { rng, pool }))
 }
 
 /// A row of a kind, made of this material. A kind that is not of `KINDS` gives a row of that word alone.
@@ -270,6 +343,44 @@ impl Edges<'_> {
             Err(fault) => fault.valid_up_to(),
         };
         [start as u32, length as u32]
+    }
+}
+
+/// The same material with damaged names among the others.
+struct DamagedNames<'a>(Edges<'a>);
+
+impl Material for DamagedNames<'_> {
+    fn random(&mut self) -> &mut Random {
+        self.0.rng
+    }
+
+    fn number(&mut self) -> u32 {
+        self.0.number()
+    }
+
+    /// At least one, if that is not too many.
+    fn entries(&mut self, most: usize) -> usize {
+        self.0.entries(most).max(most.min(1))
+    }
+
+    /// A name as it is, or without its first or last byte, which may be a character's; or a damaged one, appended to the pool.
+    fn name(&mut self) -> [u32; 2] {
+        let [start, length] = self.0.name();
+        let Edges { rng, pool } = &mut self.0;
+        match rng.below(6) {
+            0 | 1 => [start, length],
+            2 if length > 0 => [start, length - 1],
+            3 if length > 0 => [start + 1, length - 1],
+            _ => {
+                let name = rng.damaged_name();
+                if pool.len() + name.len() > POOL_BYTES {
+                    return [start, length];
+                }
+                let start = pool.len();
+                pool.extend_from_slice(&name);
+                [start as u32, name.len() as u32]
+            }
+        }
     }
 }
 

@@ -21,11 +21,13 @@ pub enum Refusal {
     Sheet = 15,
 }
 
-/// A refusal, and the value that document 01 returns with it.
+/// A refusal, and the value that document 01 returns with it. After TEXT `also` is the byte of the name, counted from its
+/// first, at which no valid reading can go on (the name's length if it merely ends early); else it is 0.
 #[derive(Clone, Copy, Debug, PartialEq, Eq, Hash, PartialOrd, Ord)]
 pub struct Refused {
     pub why: Refusal,
     pub value: u64,
+    pub also: u32,
 }
 
 /// An item that was read: words of the row, and bytes of the input that it took.
@@ -38,7 +40,7 @@ pub struct Item {
 #[repr(C)]
 struct Reply {
     number: u32,
-    words: u32,
+    also: u32,
     value: u64,
 }
 
@@ -69,8 +71,8 @@ fn refusal(number: u32) -> Refusal {
 impl Reply {
     fn item(self) -> Result<Item, Refused> {
         match self.number {
-            0 => Ok(Item { words: self.words as usize, taken: self.value as usize }),
-            n => Err(Refused { why: refusal(n), value: self.value }),
+            0 => Ok(Item { words: self.also as usize, taken: self.value as usize }),
+            n => Err(Refused { why: refusal(n), value: self.value, also: self.also }),
         }
     }
 

@@ -9,7 +9,7 @@ use lib.ListN.{length, getD}
 use Rattle.fields.specs.declared.Answer.{Answer}
 use Rattle.fields.specs.declared.Answer.the-variants.{Size, Refused}
 use Rattle.fields.specs.declared.Refusal.{Refusal}
-use Rattle.fields.specs.Answers.{left, numberOf, valueOf}
+use Rattle.fields.specs.Answers.{left, numberOf, valueOf, byteOf}
 use Rattle.sections.specs.declared.Phase.the-variants.{Closed}
 use Rattle.sections.specs.declared.Section.{Section}
 use Rattle.sections.specs.Section.{sounds, writeFamily}
@@ -64,9 +64,9 @@ module _ {state : List ℕ} (row pool body : List ℕ) (k : Ready state (length 
 
   -- used and count grow
   pub row-written : {a : Answer} {m : ℕ} {new : List ℕ} → left a new ≡ writeFamily (getD state 0 0) row pool body (getD state 1 0) → a ≡ Size m
-      → stepped (record { number = 0; words = 0; value = m }) (getD state 0 0 ∷ (getD state 1 0 + m) ∷ (getD state 2 0 + 1) ∷ 0 ∷ 0 ∷ []) new
+      → stepped (record { number = 0; also = 0; value = m }) (getD state 0 0 ∷ (getD state 1 0 + m) ∷ (getD state 2 0 + 1) ∷ 0 ∷ 0 ∷ []) new
       ≡ step (given state) (λ s. rowing s row pool body) state body
-  unfolding numberOf valueOf
+  unfolding numberOf valueOf byteOf
   row-written {new = new} e i = ready-step (ap (λ x. left x new) (sym i) ∙ e)
 
   -- or the state stays

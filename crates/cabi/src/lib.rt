@@ -25,8 +25,8 @@ ghost use Rattle.cabi.specs.inside.Settled.{Settled};
 pub struct Reply {
     // Document 01's number: 0 is OK.
     pub number: u32,
-    // How many words were read; 0 but after a successful read.
-    pub words: u32,
+    // The words of an item read; the byte of a name after TEXT; else 0.
+    pub also: u32,
     // The size, the bytes taken, the place, or the row.
     pub value: u64,
 }
@@ -44,12 +44,12 @@ fn reply_to(answer: Answer) -> Reply
     match answer {
         Answer::Size(n) => Reply {
             number: 0,
-            words: 0,
+            also: 0,
             value: n as u64,
         },
         Answer::Refused(why, n) => Reply {
             number: fields::number_of(why),
-            words: 0,
+            also: fields::byte_of(why),
             value: n as u64,
         },
     }
@@ -62,12 +62,12 @@ fn reply_to_read(read: Read) -> Reply
     match read {
         Read::Item(words, bytes) => Reply {
             number: 0,
-            words: words as u32,
+            also: words as u32,
             value: bytes as u64,
         },
         Read::Refused(why, n) => Reply {
             number: fields::number_of(why),
-            words: 0,
+            also: fields::byte_of(why),
             value: n as u64,
         },
     }
@@ -258,7 +258,7 @@ fn row_when_ready(state: &mut [u64; 5], row: &[u32], pool: &[u8], body: &mut [u8
             *state = [family, grown, more, 0, 0];
             Reply {
                 number: 0,
-                words: 0,
+                also: 0,
                 value: n as u64,
             }
         }

@@ -80,7 +80,7 @@ refusal-number refusal.Kind e = omega (arith, e)
 refusal-number refusal.Row e = omega (arith, e)
 refusal-number refusal.Tag e = omega (arith, e)
 refusal-number refusal.Range e = omega (arith, e)
-refusal-number refusal.Text e = omega (arith, e)
+refusal-number (refusal.Text byte) e = omega (arith, e)
 refusal-number refusal.TooBig e = omega (arith, e)
 refusal-number refusal.Room e = omega (arith, e)
 refusal-number refusal.Order e = omega (arith, e)
@@ -469,13 +469,13 @@ c-finishes x body out = go (given x)
     go (Is s) = writes-finished s body out
     go Not = kept-as-was _ 0 _ out
 
-c-reads : (row : List ℕ) (l : LeftRow) → Reads row l → Kept (ofRead l .reply .number) 0 (ofRead l .reply .words) row (ofRead l .row)
+c-reads : (row : List ℕ) (l : LeftRow) → Reads row l → Kept (ofRead l .reply .number) 0 (ofRead l .reply .also) row (ofRead l .row)
 c-reads row l h = go (l .answer) h
   where
     go : (r : Read) → Kept (numberOfRead r) 0 (wordsOfRead r) row (l .row)
-        → Kept (replyOfRead r .number) 0 (replyOfRead r .words) row (l .row)
+        → Kept (replyOfRead r .number) 0 (replyOfRead r .also) row (l .row)
     go (read.Item words bytes) h = h
-    go (read.Refused w n) h = h
+    go (read.Refused w n) h = record { refused = h .refused; accepted = λ e. absurd (refusal-number w e) }
 
 -- ---- every call
 

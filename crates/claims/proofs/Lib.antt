@@ -7,6 +7,7 @@ pub mod Families
 pub mod ImportsBack
 pub mod Kept
 pub mod MarkLaws
+pub mod Names
 pub mod NumberInputs
 pub mod NumberLaws
 pub mod Numbers

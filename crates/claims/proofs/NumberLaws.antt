@@ -9,7 +9,7 @@ use mathlib.Core.List.{List, [], _∷_, _++_}
 use borrow.Author.Tests.{ltb-true, ltb-false, leb-true, eqb-true}
 use lib.Dec.{eqb, ltb, leb}
 use lib.ListN.{length, getD, drop}
-use Rattle.numbers.specs.Text.{text}
+use Rattle.numbers.specs.Text.{text, stop}
 use Rattle.fields.specs.declared.Answer.{Answer}
 use Rattle.fields.specs.declared.Answer.the-variants.{Size, Refused}
 use Rattle.fields.specs.declared.Field.{Field}
@@ -117,10 +117,14 @@ nameless field.Argument = true
 nameless field.CoreSortIndex = true
 nameless field.SortIndex = true
 
+-- TEXT, wherever the name stops
+abbrev pub AnyText : (Refusal → Type 0) → Type 0
+AnyText P = (byte : ℕ) → P (refusal.Text byte)
+
 -- where there are names, RANGE and TEXT come
 abbrev pub Names : (Refusal → Type 0) → Bool → Type 0
 Names P true = Unit {0}
-Names P false = P refusal.Range × P refusal.Text
+Names P false = P refusal.Range × AnyText P
 
 abbrev pub Allowed : (Refusal → Type 0) → Field → Type 0
 Allowed P f = Names P (nameless f)
@@ -144,13 +148,13 @@ module _ (P : Refusal → Type 0) (tag : P refusal.Tag) where
   unfolding optionalValue
   optional-why ws i = on-test (Faulty P) (eqb (word ws i) 2) (unused-why ws (i + 1)) (value-why ws i)
 
-  named-why : P refusal.Range × P refusal.Text → (pool ws : List ℕ) (i : ℕ) → Faulty P (named pool ws i)
+  named-why : P refusal.Range × AnyText P → (pool ws : List ℕ) (i : ℕ) → Faulty P (named pool ws i)
   unfolding named
   named-why h pool ws i =
       on-test (Faulty P) (leb (word ws i + word ws (i + 1)) (length pool))
-      (on-test (Faulty P) (text (chars pool (word ws i) (word ws (i + 1)))) tt (h .1)) (h .0)
+      (on-test (Faulty P) (text (chars pool (word ws i) (word ws (i + 1)))) tt (h .1 (stop (chars pool (word ws i) (word ws (i + 1)))))) (h .0)
 
-  optional-name-why : P refusal.Range × P refusal.Text → (pool ws : List ℕ) (i : ℕ) → Faulty P (optionalName pool ws i)
+  optional-name-why : P refusal.Range × AnyText P → (pool ws : List ℕ) (i : ℕ) → Faulty P (optionalName pool ws i)
   unfolding optionalName
   optional-name-why h pool ws i =
       on-test (Faulty P) (eqb (word ws i) 0) (then-why (unused ws (i + 1)) (unused ws (i + 2)) (unused-why ws (i + 1)) (unused-why ws (i + 2)))
@@ -255,7 +259,7 @@ module _ (C : Field → Type 0) where
 -- ---- rows
 
 -- every field, where RANGE and TEXT may come
-pub all-allowed : (P : Refusal → Type 0) → P refusal.Range → P refusal.Text → (f : Field) → Allowed P f
+pub all-allowed : (P : Refusal → Type 0) → P refusal.Range → AnyText P → (f : Field) → Allowed P f
 all-allowed P r t f = go (nameless f)
   where
     go : (b : Bool) → Names P b
@@ -271,7 +275,7 @@ pub record Measures (P : Refusal → Type 0) (s : Shape) (row : List ℕ) (start
   pub big : (m : ℕ) → Sized s row start pool m → 4294967295 < m → P refusal.TooBig
 
 -- a row of any shape, whose groups may have no words
-pub any-shape : (P : Refusal → Type 0) → P refusal.Limit → P refusal.Row → P refusal.Tag → P refusal.Range → P refusal.Text → P refusal.TooBig
+pub any-shape : (P : Refusal → Type 0) → P refusal.Limit → P refusal.Row → P refusal.Tag → P refusal.Range → AnyText P → P refusal.TooBig
     → (s : Shape) (row : List ℕ) (start : ℕ) (pool : List ℕ) → Measures P s row start pool
 any-shape P limit empty tag range text big s row start pool =
     record {

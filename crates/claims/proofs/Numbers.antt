@@ -93,14 +93,14 @@ module _ (row pool : List ℕ) where
   unfolding numberOfRefusal
   shape-why ns s start =
       let P = Listed (1 ∷ 3 ∷ 4 ∷ 5 ∷ 6 ∷ 7 ∷ ns) in
-      measured-why P s row start pool (any-shape P refl refl refl refl refl refl s row start pool)
+      measured-why P s row start pool (any-shape P refl refl refl refl (λ byte. refl) refl s row start pool)
 
   found-why : (ns : List ℕ) (found : Found) → Tells (Listed (1 ∷ 2 ∷ 3 ∷ 4 ∷ 5 ∷ 6 ∷ 7 ∷ ns)) (measuredRow found row pool)
   unfolding numberOfRefusal
   found-why ns found =
       let P = Listed (1 ∷ 2 ∷ 3 ∷ 4 ∷ 5 ∷ 6 ∷ 7 ∷ ns) in
       measured-row-why P found row pool
-      (record { limit = refl; kind = λ e. refl; empty = refl; shape = λ s e. any-shape P refl refl refl refl refl refl s row 1 pool })
+      (record { limit = refl; kind = λ e. refl; empty = refl; shape = λ s e. any-shape P refl refl refl refl (λ byte. refl) refl s row 1 pool })
 
   shape-numbers : (s : Shape) (start : ℕ) → Among (numberOf (measured s row start pool)) (0 ∷ 1 ∷ 3 ∷ 4 ∷ 5 ∷ 6 ∷ 7 ∷ [])
   shape-numbers s start = told (1 ∷ 3 ∷ 4 ∷ 5 ∷ 6 ∷ 7 ∷ []) (measured s row start pool) (shape-why [] s start)
@@ -165,7 +165,7 @@ params-part first words pool out at =
       limit = λ b e k. refl;
       width = λ e. refl;
       tag = refl;
-      names = each-any (Allowed (Listed (1 ∷ 3 ∷ 4 ∷ 5 ∷ 6 ∷ 8 ∷ []))) (all-allowed (Listed (1 ∷ 3 ∷ 4 ∷ 5 ∷ 6 ∷ 8 ∷ [])) refl refl) (plan (types.paramsShape first));
+      names = each-any (Allowed (Listed (1 ∷ 3 ∷ 4 ∷ 5 ∷ 6 ∷ 8 ∷ []))) (all-allowed (Listed (1 ∷ 3 ∷ 4 ∷ 5 ∷ 6 ∷ 8 ∷ [])) refl (λ byte. refl)) (plan (types.paramsShape first));
       big = never-big (types.paramsShape first) (λ e. omega arith);
     })
 
@@ -175,7 +175,7 @@ unfolding numberOfRefusal
 item-numbers found kind lead g input row =
     let ns : List ℕ = 1 ∷ 6 ∷ 8 ∷ 11 ∷ 12 ∷ 13 ∷ 14 ∷ [] in
     read-told ns (readItem found kind lead g input row .answer)
-    (item-why (Listed ns) (record { text = refl; cut = refl; code = refl; number = refl; newer = refl }) refl refl found kind lead g input row)
+    (item-why (Listed ns) (record { text = λ byte. refl; cut = refl; code = refl; number = refl; newer = refl }) refl refl found kind lead g input row)
 
 refusal-numbers : (found : Found) (lead g : ℕ) (input : List ℕ)
     → Among (numberOfRead (refusalOf (scannedItem found lead g input))) (1 ∷ 6 ∷ 8 ∷ 11 ∷ 12 ∷ 13 ∷ 14 ∷ [])
@@ -183,7 +183,7 @@ unfolding numberOfRefusal
 refusal-numbers found lead g input =
     let ns : List ℕ = 1 ∷ 6 ∷ 8 ∷ 11 ∷ 12 ∷ 13 ∷ 14 ∷ [] in
     refusal-told ns (scannedItem found lead g input)
-    (refusal-why (Listed ns) (record { text = refl; cut = refl; code = refl; number = refl; newer = refl }) refl refl found lead g input)
+    (refusal-why (Listed ns) (record { text = λ byte. refl; cut = refl; code = refl; number = refl; newer = refl }) refl refl found lead g input)
 
 read-type-numbers : (g : ℕ) (input row : List ℕ)
     → Among (numberOfRead (readType g input row .answer)) (0 ∷ 1 ∷ 6 ∷ 8 ∷ 11 ∷ 12 ∷ 13 ∷ 14 ∷ [])
@@ -205,7 +205,7 @@ basic ns = record { limit = refl; kind = refl; empty = refl; tag = refl }
 
 names : (ns : List ℕ) → Named (Listed (1 ∷ 2 ∷ 3 ∷ 4 ∷ 5 ∷ 6 ∷ ns))
 unfolding numberOfRefusal
-names ns = record { basic = basic (5 ∷ 6 ∷ ns); range = refl; text = refl }
+names ns = record { basic = basic (5 ∷ 6 ∷ ns); range = refl; text = λ byte. refl }
 
 module _ (row pool : List ℕ) where
   family-numbers : (family : ℕ) → Among (numberOf (measuredFamily family row pool)) (0 ∷ 1 ∷ 2 ∷ 3 ∷ 4 ∷ 5 ∷ 6 ∷ [])
@@ -286,7 +286,7 @@ module _ (s : Section) where
   unfolding numberOfRefusal
   params-numbers words pool body =
       let ns : List ℕ = 1 ∷ 3 ∷ 4 ∷ 5 ∷ 6 ∷ 8 ∷ 9 ∷ [] in
-      told ns (paraming s words pool body .gave .answer) (params-why (Listed ns) refl s body refl refl refl refl refl refl words pool)
+      told ns (paraming s words pool body .gave .answer) (params-why (Listed ns) refl s body refl refl refl refl refl (λ byte. refl) words pool)
 
   result-numbers : (t x : ℕ) (body : List ℕ) → Among (numberOf (resulting s t x body .gave .answer)) (0 ∷ 1 ∷ 4 ∷ 8 ∷ 9 ∷ [])
   unfolding numberOfRefusal

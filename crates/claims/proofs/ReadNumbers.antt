@@ -6,7 +6,7 @@ use lib.ListN.{length, take, drop}
 use Rattle.numbers.specs.declared.leb.Taken.{Taken}
 use Rattle.numbers.specs.declared.leb.Taken.the-variants as taken
 use Rattle.numbers.specs.Leb.{takeUnsigned, takeSigned}
-use Rattle.numbers.specs.Text.{text}
+use Rattle.numbers.specs.Text.{text, stop}
 use Rattle.fields.specs.declared.Field.{Field}
 use Rattle.fields.specs.declared.Field.the-variants as field
 use Rattle.fields.specs.declared.Found.{Found}
@@ -21,10 +21,10 @@ use Rattle.reading.specs.Read.{reader, scanned, filled, roomed, readFound, read
 use Rattle.reading.specs.Scan.{byte, there, asked, past, numbered, scanIndex, named, scanName, scanPrimitive, scanValue, zeroAt, either, scanOptional, thenZero, scanResult, scanChoice, onward, stringAt, counted, countAt, slotScan, endScan, headScan, firstScan, secondScan, scanExtern, scanBound, scanModule, three, scanReference, scanEither, scanOptionalIndex, scan, scanArgument, scanCoreSortIndex, scanSortIndex}
 use Rattle.fields.specs.Shape.{plan}
 use Rattle.claims.proofs.Families.{on-test}
-use Rattle.claims.proofs.NumberLaws.{Ends, TellsRead, each-any, walk-why}
+use Rattle.claims.proofs.NumberLaws.{AnyText, Ends, TellsRead, each-any, walk-why}
 
 pub record Scans (P : Refusal → Type 0) : Type 0 where
-  pub text : P refusal.Text
+  pub text : AnyText P
   pub cut : P refusal.Cut
   pub code : P refusal.Code
   pub number : P refusal.Number
@@ -58,7 +58,7 @@ module _ (P : Refusal → Type 0) (h : Scans P) where
   name-why bs = go (takeUnsigned bs)
     where
       go : (t : Taken) → Why (named bs t)
-      go (taken.Value n t) = on-test Why (leb (t + n) (length bs)) (on-test Why (text (take n (drop t bs))) tt (h .text)) (h .cut)
+      go (taken.Value n t) = on-test Why (leb (t + n) (length bs)) (on-test Why (text (take n (drop t bs))) tt (h .text (stop (take n (drop t bs))))) (h .cut)
       go taken.Cut = h .cut
       go taken.Bad = h .number
 

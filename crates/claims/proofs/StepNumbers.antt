@@ -46,7 +46,7 @@ use Rattle.sheets.specs.Frame.{Rows, Are, Broken, poolOf}
 use Rattle.sheets.specs.Sheet as sheet
 use Rattle.sheets.specs.Sheet.{familyOf, tried, tries, joined, finished, ofRows, sheeted}
 use Rattle.claims.proofs.Families.{on-test}
-use Rattle.claims.proofs.NumberLaws.{Ends, Tells, Allowed, each-any, all-allowed, Measures, measured-why, never-big, worded, namelessShape, nameless-plan, measured-row-why, stored-why, Basic, shape-why, table-why}
+use Rattle.claims.proofs.NumberLaws.{AnyText, Ends, Tells, Allowed, each-any, all-allowed, Measures, measured-why, never-big, worded, namelessShape, nameless-plan, measured-row-why, stored-why, Basic, shape-why, table-why}
 use Rattle.numbers.proofs.Impossible.{impossible}
 
 -- ---- rows
@@ -55,7 +55,7 @@ use Rattle.numbers.proofs.Impossible.{impossible}
 pub record Named (P : Refusal → Type 0) : Type 0 where
   pub basic : Basic P
   pub range : P refusal.Range
-  pub text : P refusal.Text
+  pub text : AnyText P
 
 module _ (P : Refusal → Type 0) where
   -- no canonical has a name
@@ -196,7 +196,7 @@ module _ (P : Refusal → Type 0) (limit : P refusal.Limit) (s : Section) (body 
         go (Asynced start) = order
         go (Parametered start) = words-why (s .count) Closed resultShape (t ∷ x ∷ []) [] fields
 
-    pub params-why : P refusal.Row → P refusal.Range → P refusal.Text → (words pool : List ℕ) → Turns (paraming s words pool body)
+    pub params-why : P refusal.Row → P refusal.Range → AnyText P → (words pool : List ℕ) → Turns (paraming s words pool body)
     unfolding paraming widths wide
     params-why row range text words pool =
         on-test Turns (sounds s (length body))

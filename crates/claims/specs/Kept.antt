@@ -151,7 +151,7 @@ pub record ChangesNothingElse : Type 0 where
       → Kept (ofSheet (sheeted input body out) .reply .number) 0 (ofSheet (sheeted input body out) .reply .value) out
       (ofSheet (sheeted input body out) .out)
   pub c-read-type : (g : ℕ) (input row : List ℕ)
-      → Kept (ofRead (readType g input row) .reply .number) 0 (ofRead (readType g input row) .reply .words) row (ofRead (readType g input row) .row)
+      → Kept (ofRead (readType g input row) .reply .number) 0 (ofRead (readType g input row) .reply .also) row (ofRead (readType g input row) .row)
   pub c-read-import : (g : ℕ) (input row : List ℕ)
-      → Kept (ofRead (readImport g input row) .reply .number) 0 (ofRead (readImport g input row) .reply .words) row
+      → Kept (ofRead (readImport g input row) .reply .number) 0 (ofRead (readImport g input row) .reply .also) row
       (ofRead (readImport g input row) .row)

@@ -3,6 +3,7 @@ pub mod Bench
 pub mod Demand2
 pub mod Demand3
 pub mod Kept
+pub mod Names
 pub mod Numbers
 pub mod One
 pub mod OneCalls

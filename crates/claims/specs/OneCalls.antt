@@ -17,12 +17,14 @@ use Rattle.numbers.proofs.leb.seen_unsigned as call-seen-unsigned
 use Rattle.numbers.proofs.leb.seen_signed as call-seen-signed
 use Rattle.numbers.proofs.leb.short_signed as call-short-signed
 use Rattle.numbers.proofs.text.is_text as call-is-text
+use Rattle.numbers.proofs.text.spelling_of as call-spelling-of
 use Rattle.fields.proofs.is_indexed as call-is-indexed
 use Rattle.fields.proofs.kind_of as call-kind-of
 use Rattle.fields.proofs.two_of as call-two-of
 use Rattle.fields.proofs.many_of as call-many-of
 use Rattle.writing.proofs.measure_row as call-measure-row
 use Rattle.fields.proofs.number_of as call-number-of
+use Rattle.fields.proofs.byte_of as call-byte-of
 use Rattle.writing.proofs.measure_shape as call-measure-shape
 use Rattle.fields.proofs.first_of as call-first-of
 use Rattle.reading.proofs.item_refusal as call-item-refusal
@@ -92,6 +94,7 @@ use Rattle.telling.proofs.say_count as call-say-count
 use Rattle.telling.proofs.say_bytes as call-say-bytes
 use Rattle.telling.proofs.say_name as call-say-name
 use Rattle.telling.proofs.say_meaning as call-say-meaning
+use Rattle.telling.proofs.say_byte as call-say-byte
 use Rattle.telling.proofs.say_refusal as call-say-refusal
 use Rattle.telling.proofs.starts_with as call-starts-with
 use Rattle.telling.proofs.next_of as call-next-of
@@ -121,12 +124,14 @@ pub record NoSecondOutcome : Type 2 where
   pub seen-signed : OneOutcome call-seen-signed.ended (λ M. call-seen-signed.clauses)
   pub short-signed : OneOutcome call-short-signed.ended (λ M. call-short-signed.clauses)
   pub is-text : OneOutcome call-is-text.ended (λ M. call-is-text.clauses)
+  pub spelling-of : OneOutcome call-spelling-of.ended (λ M. call-spelling-of.clauses)
   -- fields
   pub is-indexed : OneOutcome call-is-indexed.ended (λ M. call-is-indexed.clauses)
   pub kind-of : OneOutcome call-kind-of.ended (λ M. call-kind-of.clauses)
   pub two-of : OneOutcome call-two-of.ended (λ M. call-two-of.clauses)
   pub many-of : OneOutcome call-many-of.ended (λ M. call-many-of.clauses)
   pub number-of : OneOutcome call-number-of.ended (λ M. call-number-of.clauses)
+  pub byte-of : OneOutcome call-byte-of.ended (λ M. call-byte-of.clauses)
   pub first-of : OneOutcome call-first-of.ended (λ M. call-first-of.clauses)
   -- writing
   pub measure-row : OneOutcome call-measure-row.ended (λ M. call-measure-row.clauses)
@@ -209,6 +214,7 @@ pub record NoSecondOutcome : Type 2 where
   pub say-bytes : OneOutcome call-say-bytes.ended (λ M. call-say-bytes.clauses)
   pub say-name : OneOutcome call-say-name.ended (λ M. call-say-name.clauses)
   pub say-meaning : OneOutcome call-say-meaning.ended (λ M. call-say-meaning.clauses)
+  pub say-byte : OneOutcome call-say-byte.ended (λ M. call-say-byte.clauses)
   pub say-refusal : OneOutcome call-say-refusal.ended (λ M. call-say-refusal.clauses)
   pub starts-with : OneOutcome call-starts-with.ended (λ M. call-starts-with.clauses)
   pub next-of : OneOutcome call-next-of.ended (λ M. call-next-of.clauses)

@@ -14,7 +14,7 @@ numberOfRefusal refusal.Kind = 2
 numberOfRefusal refusal.Row = 3
 numberOfRefusal refusal.Tag = 4
 numberOfRefusal refusal.Range = 5
-numberOfRefusal refusal.Text = 6
+numberOfRefusal (refusal.Text byte) = 6
 numberOfRefusal refusal.TooBig = 7
 numberOfRefusal refusal.Room = 8
 numberOfRefusal refusal.Order = 9
@@ -25,6 +25,24 @@ numberOfRefusal refusal.Number = 13
 numberOfRefusal refusal.Newer = 14
 numberOfRefusal refusal.Sheet = 15
 
+-- the second number of a refusal: the byte at which a name stops, and 0 of every other
+unfoldable pub byteOfRefusal : Refusal → ℕ
+byteOfRefusal refusal.Limit = 0
+byteOfRefusal refusal.Kind = 0
+byteOfRefusal refusal.Row = 0
+byteOfRefusal refusal.Tag = 0
+byteOfRefusal refusal.Range = 0
+byteOfRefusal (refusal.Text byte) = byte
+byteOfRefusal refusal.TooBig = 0
+byteOfRefusal refusal.Room = 0
+byteOfRefusal refusal.Order = 0
+byteOfRefusal refusal.Count = 0
+byteOfRefusal refusal.Cut = 0
+byteOfRefusal refusal.Code = 0
+byteOfRefusal refusal.Number = 0
+byteOfRefusal refusal.Newer = 0
+byteOfRefusal refusal.Sheet = 0
+
 unfoldable pub numberOf : Answer → ℕ
 numberOf (Size n) = 0
 numberOf (Refused w n) = numberOfRefusal w
@@ -32,6 +50,10 @@ numberOf (Refused w n) = numberOfRefusal w
 unfoldable pub valueOf : Answer → ℕ
 valueOf (Size n) = n
 valueOf (Refused w n) = n
+
+unfoldable pub byteOf : Answer → ℕ
+byteOf (Size n) = 0
+byteOf (Refused w n) = byteOfRefusal w
 
 -- what a call leaves: its answer, and the buffer
 pub record Left : Type 0 where

@@ -3,6 +3,7 @@ mod refusals;
 mod shapes;
 mod words;
 
+pub use refusals::byte_of;
 pub use refusals::number_of;
 pub use shapes::many_of;
 pub use shapes::two_of;
@@ -92,8 +93,8 @@ pub enum Refusal {
     Tag,
     // A name that ends past the pool.
     Range,
-    // A name that is not UTF-8.
-    Text,
+    // A name that is not UTF-8: the offset in it of the first byte at which no well-formed name can go on, its length where it ends early.
+    Text(u32),
     // A size that passes 4,294,967,295.
     TooBig,
     // Output or row too small.

@@ -1,7 +1,7 @@
-// Document 01's number of each refusal.
+// Document 01's numbers of each refusal.
 use crate::Refusal;
 ghost use mathlib.Core.Path.{_≡_};
-ghost use Rattle.fields.specs.Answers.{numberOfRefusal};
+ghost use Rattle.fields.specs.Answers.{numberOfRefusal, byteOfRefusal};
 
 // The number of a refusal; 0 is no refusal's.
 pub fn number_of(why: Refusal) -> u32
@@ -13,7 +13,7 @@ pub fn number_of(why: Refusal) -> u32
         Refusal::Row => 3,
         Refusal::Tag => 4,
         Refusal::Range => 5,
-        Refusal::Text => 6,
+        Refusal::Text(_) => 6,
         Refusal::TooBig => 7,
         Refusal::Room => 8,
         Refusal::Order => 9,
@@ -23,5 +23,28 @@ pub fn number_of(why: Refusal) -> u32
         Refusal::Number => 13,
         Refusal::Newer => 14,
         Refusal::Sheet => 15,
+    }
+}
+
+// The byte at which a name stops, of TEXT; 0 of every other refusal.
+pub fn byte_of(why: Refusal) -> u32
+    ensures { λ r. ⌜ r ≡ byteOfRefusal why ⌝ }
+{
+    match why {
+        Refusal::Limit => 0,
+        Refusal::Kind => 0,
+        Refusal::Row => 0,
+        Refusal::Tag => 0,
+        Refusal::Range => 0,
+        Refusal::Text(byte) => byte,
+        Refusal::TooBig => 0,
+        Refusal::Room => 0,
+        Refusal::Order => 0,
+        Refusal::Count => 0,
+        Refusal::Cut => 0,
+        Refusal::Code => 0,
+        Refusal::Number => 0,
+        Refusal::Newer => 0,
+        Refusal::Sheet => 0,
     }
 }

@@ -4,6 +4,7 @@ mod TextChunks
 mod TextRows
 mod ThreeBytes
 mod Vectors
+pub mod Beginnings
 pub mod BytesLaws
 pub mod CopyLaws
 pub mod Impossible

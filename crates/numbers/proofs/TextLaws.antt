@@ -1,15 +1,19 @@
--- Laws of `text`: bytes below 128 are text, the table and the core document agree, and a text after a text is one. Then examples.
+-- Laws of `text` and of where a name stops: bytes below 128 are text, the table and the core document agree, a text after a text is one,
+-- and a name is text or stops within itself. Then examples.
 use Prim.Native.Nat.{ℕ, zero, suc, _+_, _-_, _*_, _^_, _≤_, _<_}
 use native.Mathlib.Omega.{arith}
-use mathlib.Core.Path.{_≡_, refl, _∙_}
+use mathlib.Core.Path.{_≡_, refl, sym, _∙_}
 use mathlib.Core.Bool.{Bool, true, false, cond}
 use mathlib.Core.List.{List, [], _∷_, _++_, append-assoc, map}
 use mathlib.Core.Logic.{_⊎_, inl, inr, ⊎-elim}
 use lib.Dec.{T, ltb, eqb·suc-zero}
-use lib.ListN.{length}
+use lib.ListN.{length, take}
 use Rattle.numbers.specs.Names.{Later, Char, one, two, three, four, Name, none, more}
-use Rattle.numbers.specs.Text.{Row, table, among, firstIn, step, onward, rest, text}
+use Rattle.numbers.specs.Text.{Row, table, among, firstIn, step, onward, rest, text, goes, stop, spellingOf}
 use Rattle.numbers.specs.inside.Below.{Below}
+use Rattle.numbers.specs.declared.text.Spelling.{Spelling}
+use Rattle.numbers.specs.declared.text.Spelling.the-variants as spelling
+use Rattle.numbers.specs.declared.text.Step.{Step}
 use Rattle.numbers.specs.declared.text.Step.the-variants.{Next, Bad}
 use Rattle.numbers.proofs.TextChunks.{side}
 use Rattle.numbers.proofs.TextRows.{among-in, among-low, among-high, ends, nth, found}
@@ -37,7 +41,7 @@ unfolding rest step
 row-rest k b s l t p q = rw (found k b l t p q)
 
 -- a byte after the first
-later-rest : (need low high b : ℕ) (s : List ℕ) → low ≤ b → b ≤ high → rest (suc need) low high (b ∷ s) ≡ rest need 0x80 0xbf s
+pub later-rest : (need low high b : ℕ) (s : List ℕ) → low ≤ b → b ≤ high → rest (suc need) low high (b ∷ s) ≡ rest need 0x80 0xbf s
 unfolding rest step
 later-rest need low high b s p q = rw (among-in low high b p q)
 
@@ -145,13 +149,13 @@ rights =
 
 -- a first byte, row by row
 first-name : (rs : List Row) → Rights rs → (b : ℕ) (s : List ℕ) → ((n l h : ℕ) → rest n l h s ≡ true → Rest n l h s)
-    → onward (firstIn rs b) (λ n l h. rest n l h s) ≡ true → Name (b ∷ s)
+    → onward false (firstIn rs b) (λ n l h. rest n l h s) ≡ true → Name (b ∷ s)
 first-name [] no-more b s sound e = impossible cc
 first-name (r ∷ rs) (_ by x also xs) b s sound e = go (among (r .from) (r .to) b) refl e (λ f. first-name rs xs b s sound f)
   where
     go : (t : Bool) → among (r .from) (r .to) b ≡ t
-        → onward (cond t (Next (r .follow) (r .low) (r .high)) (firstIn rs b)) (λ n l h. rest n l h s) ≡ true
-        → (onward (firstIn rs b) (λ n l h. rest n l h s) ≡ true → Name (b ∷ s)) → Name (b ∷ s)
+        → onward false (cond t (Next (r .follow) (r .low) (r .high)) (firstIn rs b)) (λ n l h. rest n l h s) ≡ true
+        → (onward false (firstIn rs b) (λ n l h. rest n l h s) ≡ true → Name (b ∷ s)) → Name (b ∷ s)
     go true a f later = x b s (among-low (r .from) (r .to) b a) (among-high (r .from) (r .to) b a) (sound (r .follow) (r .low) (r .high) f)
     go false a f later = later f
 
@@ -162,7 +166,7 @@ rest-sound (suc need) low high [] e = let z : _≡_ {A = ℕ} 0 1 = cc (eqb·suc
 rest-sound zero low high (b ∷ s) e = done (first-name table rights b s (λ n l h f. rest-sound n l h s f) e)
 rest-sound (suc need) low high (b ∷ s) e = go (among low high b) refl e (λ f. rest-sound need 0x80 0xbf s f)
   where
-    go : (t : Bool) → among low high b ≡ t → onward (cond t (Next need 0x80 0xbf) Bad) (λ n l h. rest n l h s) ≡ true
+    go : (t : Bool) → among low high b ≡ t → onward false (cond t (Next need 0x80 0xbf) Bad) (λ n l h. rest n l h s) ≡ true
         → (rest need 0x80 0xbf s ≡ true → Rest need 0x80 0xbf s) → Rest (suc need) low high (b ∷ s)
     go true a f later = next (among-low low high b a) (among-high low high b a) (later f)
     go false a f later = impossible cc
@@ -183,22 +187,75 @@ name-append (more ch n) m = rw append-assoc (more ch (name-append n m))
 pub text-append : (a b : List ℕ) → text a ≡ true → text b ≡ true → text (a ++ b) ≡ true
 text-append a b p q = text-complete (a ++ b) (name-append (text-sound a p) (text-sound b q))
 
+-- ---- a name is text, or stops within itself
+
+goes-within : (need low high : ℕ) (s : List ℕ) → goes need low high s ≤ length s
+unfolding goes
+goes-within need low high [] = omega arith
+goes-within need low high (b ∷ s) = go (step need low high b) (λ n l h. goes-within n l h s)
+  where
+    go : (x : Step) → ((n l h : ℕ) → goes n l h s ≤ length s) → onward 0 x (λ n l h. suc (goes n l h s)) ≤ suc (length s)
+    go (Next n l h) later = omega (arith, later n l h)
+    go Bad later = omega arith
+
+pub stop-within : (s : List ℕ) → stop s ≤ length s
+unfolding stop
+stop-within s = goes-within 0 0x80 0xbf s
+
+pub spelled-right : (s : List ℕ) → text s ≡ true → spellingOf s ≡ spelling.Right
+unfolding spellingOf
+spelled-right s e = rw e
+
+pub spelled-wrong : (s : List ℕ) → text s ≡ false → spellingOf s ≡ spelling.Stops (stop s)
+unfolding spellingOf
+spelled-wrong s e = rw e
+
+pub right-text : (s : List ℕ) → spellingOf s ≡ spelling.Right → text s ≡ true
+right-text s e = go (text s) refl
+  where
+    go : (t : Bool) → text s ≡ t → text s ≡ true
+    go true p = p
+    go false p = impossible (cc (spelled-wrong s p))
+
+pub stops-text : (s : List ℕ) (n : ℕ) → spellingOf s ≡ spelling.Stops n → text s ≡ false
+stops-text s n e = go (text s) refl
+  where
+    go : (t : Bool) → text s ≡ t → text s ≡ false
+    go true p = impossible (cc (spelled-right s p))
+    go false p = p
+
+pub stops-stop : (s : List ℕ) (n : ℕ) → spellingOf s ≡ spelling.Stops n → n ≡ stop s
+stops-stop s n e = cc (spelled-wrong s (stops-text s n e))
+
+pub stops-within : (s : List ℕ) (n : ℕ) → spellingOf s ≡ spelling.Stops n → n ≤ length s
+stops-within s n e = omega (arith, stops-stop s n e, stop-within s)
+
+-- and within the n bytes that were taken for it
+taken-short : (n : ℕ) (s : List ℕ) → length (take n s) ≤ n
+taken-short zero s = omega arith
+taken-short (suc n) [] = omega arith
+taken-short (suc n) (b ∷ s) = omega (arith, taken-short n s)
+
+pub stops-taken : (n : ℕ) (s : List ℕ) {b : ℕ} {r : Spelling} → r ≡ spellingOf (take n s) → r ≡ spelling.Stops b → b ≤ n
+stops-taken n s {b} e f = omega (arith, stops-within (take n s) b (sym e ∙ f), taken-short n s)
+
 -- ---- examples
 
--- bytes, and whether they are text: a surrogate, two forms that are not the shortest, the first number past the last character and
--- the last character, a character cut short and whole, and no byte
-abbrev pub examples : List (List ℕ × Bool)
+-- names and what they are: a surrogate, two forms that are not the shortest, the first number past the last character and the last
+-- character, a character cut short and whole, one whose fourth byte is another character's, and no byte
+abbrev pub examples : List (List ℕ × Spelling)
 examples =
-    (0xed ∷ 0xa0 ∷ 0x80 ∷ [], false)
-    ∷ (0xc0 ∷ 0x80 ∷ [], false)
-    ∷ (0xe0 ∷ 0x80 ∷ 0x80 ∷ [], false)
-    ∷ (0xf4 ∷ 0x90 ∷ 0x80 ∷ 0x80 ∷ [], false)
-    ∷ (0xf4 ∷ 0x8f ∷ 0xbf ∷ 0xbf ∷ [], true)
-    ∷ (0xc3 ∷ [], false)
-    ∷ (0xc3 ∷ 0xa9 ∷ [], true)
-    ∷ ([], true)
+    (0xed ∷ 0xa0 ∷ 0x80 ∷ [], spelling.Stops 1)
+    ∷ (0xc0 ∷ 0x80 ∷ [], spelling.Stops 0)
+    ∷ (0xe0 ∷ 0x80 ∷ 0x80 ∷ [], spelling.Stops 1)
+    ∷ (0xf4 ∷ 0x90 ∷ 0x80 ∷ 0x80 ∷ [], spelling.Stops 1)
+    ∷ (0xf4 ∷ 0x8f ∷ 0xbf ∷ 0xbf ∷ [], spelling.Right)
+    ∷ (0xc3 ∷ [], spelling.Stops 1)
+    ∷ (0xc3 ∷ 0xa9 ∷ [], spelling.Right)
+    ∷ (0x41 ∷ 0xf0 ∷ 0x9f ∷ 0x98 ∷ 0x41 ∷ [], spelling.Stops 4)
+    ∷ ([], spelling.Right)
     ∷ []
 
-pub text-examples : map (λ e. text (e .0)) examples ≡ map (λ e. e .1) examples
-unfolding text rest step
-text-examples = refl
+pub spelling-examples : map (λ e. spellingOf (e .0)) examples ≡ map (λ e. e .1) examples
+unfolding spellingOf stop goes text rest step
+spelling-examples = refl

@@ -1,4 +1,4 @@
--- Laws of the table and of `rest`: a first byte's row, a byte where some are to follow, and the rounds of a loop over the bytes.
+-- Laws of the table, of `rest` and of `goes`: a first byte's row, a byte where some are to follow, and the rounds of a loop over the bytes.
 use Prim.Native.Nat.{ℕ, zero, suc, _+_, _-_, _≤_, _<_}
 use native.Mathlib.Omega.{arith}
 use native.Mathlib.Numerals.{add-one}
@@ -9,16 +9,16 @@ use lib.Dec.{T, eqb, leb, ltb, ltb→lt, leb→le}
 use lib.ListN.{length, drop, getD, drop-of-length-le}
 use lib.Seq.{drop-cons}
 use borrow.Author.Tests.{le-leb, lt-leb}
-use Rattle.numbers.specs.Text.{Row, row, table, among, firstIn, step, onward, rest}
+use Rattle.numbers.specs.Text.{Row, row, table, among, firstIn, step, onward, rest, goes}
 use Rattle.numbers.specs.declared.text.Step.the-variants.{Next, Bad}
 
 -- ---- a byte in low..high
 
-and-left : (a b : Bool) → T (a && b) → T a
+pub and-left : (a b : Bool) → T (a && b) → T a
 and-left true b t = tt
 and-left false b t = t
 
-and-right : (a b : Bool) → T (a && b) → T b
+pub and-right : (a b : Bool) → T (a && b) → T b
 and-right true b t = t
 and-right false b t = absurd t
 
@@ -107,7 +107,7 @@ step-above (suc need) low high b z p = rw (among-above low high b p)
 -- ---- a round of a loop over the bytes
 
 round : (need low high : ℕ) (s : List ℕ) (i : ℕ) → i < length s
-    → rest need low high (drop i s) ≡ onward (step need low high (getD s i 0)) (λ n l h. rest n l h (drop (suc i) s))
+    → rest need low high (drop i s) ≡ onward false (step need low high (getD s i 0)) (λ n l h. rest n l h (drop (suc i) s))
 unfolding rest
 round need low high s i h = rw (drop-cons s i 0 h)
 
@@ -122,3 +122,19 @@ round-next need low high s i n l k h e = round need low high s i h ∙ rw (e, ad
 pub rounds-end : (need low high : ℕ) (s : List ℕ) (i : ℕ) → length s ≤ i → rest need low high (drop i s) ≡ eqb need 0
 unfolding rest
 rounds-end need low high s i h = rw (drop-of-length-le s h)
+
+-- ---- a round of the loop that counts the bytes
+
+pub count-bad : (need low high : ℕ) (s : List ℕ) (i : ℕ) → i < length s → step need low high (getD s i 0) ≡ Bad
+    → goes need low high (drop i s) ≡ 0
+unfolding goes
+count-bad need low high s i h e = rw (drop-cons s i 0 h, e)
+
+pub count-next : (need low high : ℕ) (s : List ℕ) (i n l k : ℕ) → i < length s → step need low high (getD s i 0) ≡ Next n l k
+    → goes need low high (drop i s) ≡ suc (goes n l k (drop (i + 1) s))
+unfolding goes
+count-next need low high s i n l k h e = rw (drop-cons s i 0 h, e, add-one)
+
+pub count-end : (need low high : ℕ) (s : List ℕ) (i : ℕ) → length s ≤ i → goes need low high (drop i s) ≡ 0
+unfolding goes
+count-end need low high s i h = rw (drop-of-length-le s h)

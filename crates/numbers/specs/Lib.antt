@@ -1,3 +1,4 @@
+pub mod Beginnings
 pub mod Bytes
 pub mod Integers
 pub mod Leb

@@ -3,6 +3,8 @@ use Prim.Native.Nat.{ℕ, zero, suc}
 use mathlib.Core.Bool.{Bool, false, cond, _&&_}
 use mathlib.Core.List.{List, [], _∷_}
 use lib.Dec.{leb, eqb}
+use Rattle.numbers.specs.declared.text.Spelling.{Spelling}
+use Rattle.numbers.specs.declared.text.Spelling.the-variants.{Right, Stops}
 use Rattle.numbers.specs.declared.text.Step.{Step}
 use Rattle.numbers.specs.declared.text.Step.the-variants.{Next, Bad}
 
@@ -43,15 +45,28 @@ unfoldable pub step : ℕ → ℕ → ℕ → ℕ → Step
 step zero low high b = firstIn table b
 step (suc need) low high b = cond (among low high b) (Next need 0x80 0xbf) Bad
 
--- what `go` says after a step that is not bad
-abbrev pub onward : Step → (ℕ → ℕ → ℕ → Bool) → Bool
-onward (Next need low high) go = go need low high
-onward Bad go = false
+-- what `go` says after a step that is not bad, and `none` after one that is
+abbrev pub onward : {A : Type 0} → A → Step → (ℕ → ℕ → ℕ → A) → A
+onward none (Next need low high) go = go need low high
+onward none Bad go = none
 
 -- whether `need` bytes follow, the first of them in low..high, and then text
 unfoldable pub rest : ℕ → ℕ → ℕ → List ℕ → Bool
 rest need low high [] = eqb need 0
-rest need low high (b ∷ s) = onward (step need low high b) (λ n l h. rest n l h s)
+rest need low high (b ∷ s) = onward false (step need low high b) (λ n l h. rest n l h s)
 
 unfoldable pub text : List ℕ → Bool
 text s = rest 0 0x80 0xbf s
+
+-- how many bytes go before the first whose step is bad: all of them where none is
+unfoldable pub goes : ℕ → ℕ → ℕ → List ℕ → ℕ
+goes need low high [] = 0
+goes need low high (b ∷ s) = onward 0 (step need low high b) (λ n l h. suc (goes n l h s))
+
+-- the offset of the first byte at which no text can go on (Beginnings.antt): the length where there is none
+unfoldable pub stop : List ℕ → ℕ
+stop s = goes 0 0x80 0xbf s
+
+-- a name is text, or stops somewhere
+unfoldable pub spellingOf : List ℕ → Spelling
+spellingOf s = cond (text s) Right (Stops (stop s))

@@ -4,7 +4,15 @@ ghost use mathlib.Core.Path.{_≡_};
 ghost use Prim.Native.Nat.{_+_, _≤_};
 ghost use lib.ListN.{length};
 ghost use Rattle.numbers.specs.inside.Below.{Below};
-ghost use Rattle.numbers.specs.Text.{firstIn, step, table, text};
+ghost use Rattle.numbers.specs.Text.{firstIn, spellingOf, step, stop, table, text};
+
+// What a name is.
+pub enum Spelling {
+    // Well-formed UTF-8.
+    Right,
+    // It is not: the offset of the first byte at which no well-formed name can go on, its length where it merely ends early.
+    Stops(usize),
+}
 
 // What a byte of UTF-8 leads to.
 enum Step {
@@ -126,4 +134,39 @@ pub fn is_text(name: &[u8]) -> bool
         return true;
     }
     well_formed(name)
+}
+
+// The offset of the name's first byte at which no well-formed name can go on; its length where there is none.
+fn stop(name: &[u8]) -> usize
+    ensures { λ r. ⌜ r ≡ stop (now (name .entry)) ⌝ }
+{
+    let len = name.len();
+    let mut need: u8 = 0;
+    let mut low: u8 = 0x80;
+    let mut high: u8 = 0xbf;
+    let mut i: usize = 0;
+    while i < len {
+        match after(need, low, high, name[i]) {
+            Step::Next(n, l, h) => {
+                need = n;
+                low = l;
+                high = h;
+            }
+            Step::Bad => {
+                return i;
+            }
+        }
+        i += 1;
+    }
+    len
+}
+
+// Whether the name is well-formed UTF-8, and where it stops if not. Byte by byte: it is asked of a name that was refused.
+pub fn spelling_of(name: &[u8]) -> Spelling
+    ensures { λ r. ⌜ r ≡ spellingOf (now (name .entry)) ⌝ }
+{
+    if is_text(name) {
+        return Spelling::Right;
+    }
+    Spelling::Stops(stop(name))
 }

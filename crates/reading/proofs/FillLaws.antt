@@ -15,7 +15,7 @@ use Rattle.numbers.specs.declared.leb.Taken.the-variants as taken
 use Rattle.numbers.specs.Integers.{u32}
 use Rattle.numbers.specs.Leb.{takeUnsigned}
 use Rattle.numbers.specs.Seen.{seen}
-use Rattle.numbers.specs.Text.{text}
+use Rattle.numbers.specs.Text.{text, stop}
 use Rattle.numbers.proofs.LebLaws.{taken-inside}
 use Rattle.numbers.proofs.BytesLaws.{sets-append}
 use Rattle.numbers.proofs.SeenLaws.{index-small}
@@ -246,10 +246,10 @@ pub name-words : (g at : ℕ) (bs : List ℕ) (t m : ℕ) → scan 1 g field.Nam
 unfolding scan scanName fill fillName
 name-words g at bs t m e = go (takeUnsigned bs) refl e
   where
-    fits : (n k : ℕ) (p q : Bool) → cond p (cond q (Fine (k + n) 2) (Bad Text k)) (cut bs) ≡ Fine t m → t ≡ k + n
-    fits n k true true e = cc
-    fits n k true false e = impossible cc
-    fits n k false q e = impossible cc
+    fits : (n k byte : ℕ) (p q : Bool) → cond p (cond q (Fine (k + n) 2) (Bad (Text byte) k)) (cut bs) ≡ Fine t m → t ≡ k + n
+    fits n k byte true true e = cc
+    fits n k byte true false e = impossible cc
+    fits n k byte false q e = impossible cc
 
     go : (x : Taken) → takeUnsigned bs ≡ x → named bs x ≡ Fine t m
         → (0 < seen x .took) × (seen x .took ≤ 5) × (seen x .value < 2 ^ 32) × (t ≡ seen x .took + seen x .value)
@@ -257,6 +257,6 @@ name-words g at bs t m e = go (takeUnsigned bs) refl e
     go (taken.Value n k) x e =
         let b = taken-inside u32 bs n k x in
         let start : at + (0 + k) ≡ at + k = omega arith in
-        (b .0, b .1, index-small bs n k x, fits n k (leb (k + n) (length bs)) (text (take n (drop k bs))) e, ap (λ j. j ∷ n ∷ []) start)
+        (b .0, b .1, index-small bs n k x, fits n k (stop (take n (drop k bs))) (leb (k + n) (length bs)) (text (take n (drop k bs))) e, ap (λ j. j ∷ n ∷ []) start)
     go taken.Cut x e = impossible cc
     go taken.Bad x e = impossible cc

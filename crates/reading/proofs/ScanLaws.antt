@@ -11,7 +11,7 @@ use Rattle.numbers.specs.declared.leb.Taken.{Taken}
 use Rattle.numbers.specs.declared.leb.Taken.the-variants as taken
 use Rattle.numbers.specs.Integers.{Form, u32, s33}
 use Rattle.numbers.specs.Leb.{takeIn, takeUnsigned}
-use Rattle.numbers.specs.Text.{text}
+use Rattle.numbers.specs.Text.{text, stop}
 use Rattle.numbers.proofs.LebLaws.{taken-inside}
 use Rattle.fields.specs.declared.Field.{Field}
 use Rattle.fields.specs.declared.Field.the-variants as field
@@ -119,7 +119,7 @@ unfolding scanName
 name-near bs = go (takeUnsigned bs) refl
   where
     fits : (n t : ℕ) → t ≤ length bs → (b : Bool) → leb (t + n) (length bs) ≡ b
-        → Near (length bs) (Words 2) (cond b (cond (text (take n (drop t bs))) (Fine (t + n) 2) (Bad Text t)) (cut bs))
+        → Near (length bs) (Words 2) (cond b (cond (text (take n (drop t bs))) (Fine (t + n) 2) (Bad (Text (stop (take n (drop t bs)))) t)) (cut bs))
     fits n t h true e = cond-near (text (take n (drop t bs))) (fine (t + n) 2 (leb-true (t + n) (length bs) e) refl) (bad _ t h)
     fits n t h false e = cut-near bs
 

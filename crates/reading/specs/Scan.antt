@@ -8,7 +8,7 @@ use lib.ListN.{length, getD, take, drop}
 use Rattle.numbers.specs.declared.leb.Taken.{Taken}
 use Rattle.numbers.specs.declared.leb.Taken.the-variants as taken
 use Rattle.numbers.specs.Leb.{takeUnsigned, takeSigned}
-use Rattle.numbers.specs.Text.{text}
+use Rattle.numbers.specs.Text.{text, stop}
 use Rattle.fields.specs.declared.Field.{Field}
 use Rattle.fields.specs.declared.Field.the-variants as field
 use Rattle.fields.specs.declared.Refusal.{Refusal}
@@ -49,7 +49,7 @@ scanIndex m bs = numbered bs (takeUnsigned bs) m
 
 -- a name: its length, and its bytes, which are text
 abbrev pub named : List ℕ → Taken → Leaf
-named bs (taken.Value n t) = cond (leb (t + n) (length bs)) (cond (text (take n (drop t bs))) (Fine (t + n) 2) (Bad Text t)) (cut bs)
+named bs (taken.Value n t) = cond (leb (t + n) (length bs)) (cond (text (take n (drop t bs))) (Fine (t + n) 2) (Bad (Text (stop (take n (drop t bs)))) t)) (cut bs)
 named bs taken.Cut = cut bs
 named bs taken.Bad = Bad Number 0
 

@@ -3,6 +3,7 @@ use fields::Field;
 use fields::Leaf;
 use fields::Refusal;
 use fields::is_indexed;
+use numbers::Spelling;
 use numbers::Taken;
 ghost use mathlib.Core.Path.{_≡_};
 ghost use Prim.Native.Nat.{_<_, _≤_, _+_, _^_};
@@ -79,10 +80,10 @@ fn scan_name(bs: &[u8]) -> Leaf
         Taken::Value(n, t) => {
             let end = t + (n as usize);
             if end <= bs.len() {
-                if numbers::is_text(&bs[t..end]) {
-                    return Leaf::Fine(end, 2);
-                }
-                return Leaf::Bad(Refusal::Text, t);
+                return match numbers::spelling_of(&bs[t..end]) {
+                    Spelling::Right => Leaf::Fine(end, 2),
+                    Spelling::Stops(byte) => Leaf::Bad(Refusal::Text(byte as u32), t),
+                };
             }
             cut_short(bs)
         }

@@ -14,7 +14,7 @@ use Rattle.numbers.specs.declared.leb.Taken.the-variants as taken
 use Rattle.numbers.specs.Bytes.{Bytes}
 use Rattle.numbers.specs.Integers.{u32}
 use Rattle.numbers.specs.Leb.{unsigned, takeUnsigned}
-use Rattle.numbers.specs.Text.{text}
+use Rattle.numbers.specs.Text.{text, stop}
 use Rattle.numbers.proofs.LebLaws.{taken-only, taken-inside, one-byte}
 use Rattle.fields.specs.declared.Field.the-variants as field
 use Rattle.fields.specs.declared.Flaw.the-variants.{Right}
@@ -97,11 +97,11 @@ unfolding scanName
 name-found l t m f e = go (takeUnsigned l) refl e
   where
     go : (r : Taken) → takeUnsigned l ≡ r → scans.named l r ≡ Fine t m → NameFound l t m
-    go (taken.Value n k) q e = test (leb (k + n) (length l)) (text (take n (drop k l))) refl refl e
+    go (taken.Value n k) q e = test (stop (take n (drop k l))) (leb (k + n) (length l)) (text (take n (drop k l))) refl refl e
       where
-        test : (a b : Bool) → leb (k + n) (length l) ≡ a → text (take n (drop k l)) ≡ b
-            → cond a (cond b (Fine (k + n) 2) (Bad Text k)) (cut l) ≡ Fine t m → NameFound l t m
-        test true true ha hb e =
+        test : (byte : ℕ) (a b : Bool) → leb (k + n) (length l) ≡ a → text (take n (drop k l)) ≡ b
+            → cond a (cond b (Fine (k + n) 2) (Bad (Text byte) k)) (cut l) ≡ Fine t m → NameFound l t m
+        test byte true true ha hb e =
             let et : k + n ≡ t = cc in
             let o = taken-only u32 l n k f q in
             let i = taken-inside u32 l n k q in
@@ -118,8 +118,8 @@ name-found l t m f e = go (takeUnsigned l) refl e
               says = hb;
               makes = cc;
             }
-        test true false ha hb e = impossible cc
-        test false b ha hb e = impossible cc
+        test byte true false ha hb e = impossible cc
+        test byte false b ha hb e = impossible cc
     go taken.Cut q e = impossible cc
     go taken.Bad q e = impossible cc
 

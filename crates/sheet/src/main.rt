@@ -1,5 +1,7 @@
-// A sheet on standard input becomes one line on standard output: `ok` and the section in hexadecimal, or `refused N at row R`.
+// A sheet on standard input becomes one line on standard output: `ok` and the section in hexadecimal, or `refused N at row R`, with
+// ` byte B` behind it for a name that is not UTF-8.
 use fields::Answer;
+use fields::Refusal;
 use libc::STDIN_FILENO;
 use telling::say;
 use telling::say_field;
@@ -10,9 +12,10 @@ fn say_section(section: &[u8]) {
     say(b"\n");
 }
 
-fn say_refusal(number: u32, row: usize) {
-    say_field(b"refused ", number as u64);
+fn say_refusal(why: Refusal, row: usize) {
+    say_field(b"refused ", fields::number_of(why) as u64);
     say_field(b" at row ", row as u64);
+    telling::say_byte(why);
     say(b"\n");
 }
 
@@ -24,6 +27,6 @@ fn main() {
     let mut out = [0u8; 32800];
     match sheets::sheet(&input[..n], &mut body, &mut out) {
         Answer::Size(size) => say_section(numbers::part(&out, 0, size)),
-        Answer::Refused(why, row) => say_refusal(fields::number_of(why), row),
+        Answer::Refused(why, row) => say_refusal(why, row),
     }
 }

@@ -14,6 +14,7 @@ pub use numerals::number_at;
 pub use numerals::word;
 pub use numerals::word_of;
 pub use numerals::words_of;
+pub use refusals::say_byte;
 pub use refusals::say_meaning;
 pub use refusals::say_name;
 pub use refusals::say_refusal;

@@ -3,7 +3,7 @@ use crate::text::say;
 use crate::text::say_field;
 use fields::Refusal;
 ghost use mathlib.Core.Path.{_≡_};
-ghost use Rattle.fields.specs.Answers.{numberOfRefusal};
+ghost use Rattle.fields.specs.Answers.{numberOfRefusal, byteOfRefusal};
 
 // The names by number; OK is that of 0.
 fn print_name(number: usize) -> usize {
@@ -51,6 +51,14 @@ fn print_meaning(number: usize) -> usize {
     }
 }
 
+// The byte at which a name stops.
+fn print_byte(why: Refusal) -> u64 {
+    match why {
+        Refusal::Text(byte) => say_field(b" byte ", byte as u64),
+        _ => 0,
+    }
+}
+
 // The name of a number.
 pub fn say_name(number: usize) -> usize
     ensures { λ r. ⌜ r ≡ number ⌝ }
@@ -67,7 +75,15 @@ pub fn say_meaning(number: usize) -> usize
     number
 }
 
-// `refused NUMBER VALUE NAME`, and the number.
+// ` byte B` after TEXT, and nothing after any other refusal.
+pub fn say_byte(why: Refusal) -> u32
+    ensures { λ r. ⌜ r ≡ byteOfRefusal why ⌝ }
+{
+    print_byte(why);
+    fields::byte_of(why)
+}
+
+// `refused NUMBER VALUE NAME`, and after TEXT the name's byte.
 pub fn say_refusal(why: Refusal, value: usize) -> u32
     ensures { λ r. ⌜ r ≡ numberOfRefusal why ⌝ }
 {
@@ -76,5 +92,6 @@ pub fn say_refusal(why: Refusal, value: usize) -> u32
     say_field(b" ", value as u64);
     say(b" ");
     say_name(number as usize);
+    say_byte(why);
     number
 }

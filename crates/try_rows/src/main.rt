@@ -8,8 +8,9 @@
 //   at N           the place in it
 //   row W W ..     the row of those words goes to the writer of its kind: 17 imports, 18 to 21 instances, 256 and above canonicals, else types
 //   long KIND N    so does a row of N words, all 0 after the first
-// A row's answer is a line, `ok SIZE BYTES` or `refused NUMBER VALUE NAME`; it ends in ` changed` where a byte that the answer does
-// not count is not as it was. What is none of these, or passes the program's own buffers, is a line that begins with `?`.
+// A row's answer is a line, `ok SIZE BYTES` or `refused NUMBER VALUE NAME`, with ` byte B` behind TEXT; it ends in ` changed` where a
+// byte that the answer does not count is not as it was. What is none of these, or passes the program's own buffers, is a line that
+// begins with `?`.
 use fields::Answer;
 use libc::STDIN_FILENO;
 use telling::end_line;

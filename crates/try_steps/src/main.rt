@@ -17,10 +17,10 @@
 //   finish N           into a buffer of N bytes
 //   long KIND N        a row of N words, all 0 after the first
 //   long-params N      params of N words, all 0 after the first, which is N / 4
-// A step's answer is a line: `ok SIZE` or `refused NUMBER VALUE NAME`; then the state, `family F used U count C phase P start S`; then,
-// if the step was taken, the used part of the body or what was finished; and ` changed` where a refusal did not leave everything as
-// it was, or a step that was taken changed a byte that it does not count. What is none of these, or passes the program's own buffers,
-// is a line that begins with `?`.
+// A step's answer is a line: `ok SIZE` or `refused NUMBER VALUE NAME`, with ` byte B` behind TEXT; then the state, `family F used U
+// count C phase P start S`; then, if the step was taken, the used part of the body or what was finished; and ` changed` where a
+// refusal did not leave everything as it was, or a step that was taken changed a byte that it does not count. What is none of these,
+// or passes the program's own buffers, is a line that begins with `?`.
 use fields::Answer;
 use libc::STDIN_FILENO;
 use sections::Phase;

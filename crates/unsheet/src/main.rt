@@ -8,7 +8,8 @@
 // without one.
 //
 // A section's answer is a line for the section and one for each entry, up to the first fault, which is a line
-// `refused NUMBER NAME at PLACE: MEANING`. Places count from the section's first byte.
+// `refused NUMBER NAME at PLACE: MEANING`, after TEXT with ` byte B` behind the place of the name. Places count from the section's
+// first byte, and a name's bytes from its own.
 mod entry;
 mod parts;
 mod print;

@@ -43,6 +43,7 @@ pub fn say_place(at: usize) {
 pub fn say_refusal(why: Refusal, at: usize) {
     let number = say_refused(why);
     say_place(at);
+    telling::say_byte(why);
     say(b": ");
     telling::say_meaning(number);
     say(b"\n");

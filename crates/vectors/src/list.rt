@@ -3,7 +3,7 @@ use libc::STDIN_FILENO;
 ghost use Prim.Native.Nat.{_<_};
 
 // The bytes of a case's numbers.
-pub const HEAD: usize = 36;
+pub const HEAD: usize = 40;
 
 // The sorts of a case: a sheet, and the readings of a type and of an import.
 pub const SHEETS: usize = 0;
@@ -23,6 +23,8 @@ pub struct Case {
     pub room: usize,
     pub number: usize,
     pub value: usize,
+    // The words of an item read, the byte of a name after TEXT, else 0.
+    pub also: usize,
     // The bytes of the section, or of the words of the row.
     pub made: usize,
     // The bytes of the body, which end the section.
@@ -48,13 +50,13 @@ pub fn number_of(a: u8, b: u8, c: u8, d: u8) -> u32 {
 }
 
 fn number_at(head: &[u8; HEAD], at: usize) -> u32
-    requires { ⌜ at < 33 ⌝ }
+    requires { ⌜ at < 37 ⌝ }
 {
     number_of(head[at], head[at + 1], head[at + 2], head[at + 3])
 }
 
 fn size_at(head: &[u8; HEAD], at: usize) -> usize
-    requires { ⌜ at < 33 ⌝ }
+    requires { ⌜ at < 37 ⌝ }
 {
     number_at(head, at) as usize
 }
@@ -68,8 +70,9 @@ pub fn case_of(head: &[u8; HEAD]) -> Case {
         room: size_at(head, 16),
         number: size_at(head, 20),
         value: size_at(head, 24),
-        made: size_at(head, 28),
-        body: size_at(head, 32),
+        also: size_at(head, 28),
+        made: size_at(head, 32),
+        body: size_at(head, 36),
     }
 }
 

@@ -3,8 +3,8 @@
 //
 // Standard input is one list after the other, as tools/vectors wrote them; tools/cases.py says how a list is laid out. Each case is
 // run twice, with all that is lent to be written filled by two patterns that differ in every byte. A case is right where each time
-// number, value and, for a reading, words are those of the list, what is made stands at the front of what was lent, and all the
-// rest is as it was filled. For a refusal nothing is made, so nothing may change.
+// number, value and what comes with them (words read, or a name's byte) are those of the list, what is made stands at the front of
+// what was lent, and all the rest is as it was filled. For a refusal nothing is made, so nothing may change.
 //
 // A list is told by its title and, for each sort of case that it has, how many of them were answered by each of document 01's numbers.
 mod lent;

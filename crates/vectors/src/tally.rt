@@ -33,13 +33,13 @@ fn say_sort(sort: usize) -> usize {
     }
 }
 
-fn say_answer(text: &[u8], number: usize, value: usize, words: usize) {
+fn say_answer(text: &[u8], number: usize, value: usize, also: usize) {
     say_field(text, number as u64);
     say(b" ");
     say_name(number);
     say_field(b" ", value as u64);
-    if 0 < words {
-        say_field(b", words ", words as u64);
+    if 0 < also {
+        say_field(b", also ", also as u64);
     }
 }
 
@@ -55,18 +55,13 @@ pub fn say_difference(at: usize, case: Case, outcome: Outcome) {
         b", differs: answered ",
         outcome.number,
         outcome.value,
-        outcome.words,
+        outcome.also,
     );
-    if trial::is_told(case, outcome.number, outcome.value, outcome.words) {
+    if trial::is_told(case, outcome.number, outcome.value, outcome.also) {
         say(b", with other bytes\n");
         return;
     }
-    say_answer(
-        b"; the list has ",
-        case.number,
-        case.value,
-        trial::words_of(case),
-    );
+    say_answer(b"; the list has ", case.number, case.value, case.also);
     say(b"\n");
 }
 

@@ -10,35 +10,32 @@ use fields::Refusal;
 pub struct Outcome {
     pub number: usize,
     pub value: usize,
-    pub words: usize,
+    pub also: usize,
     pub right: bool,
 }
 
-// The words that a case makes.
-pub fn words_of(case: Case) -> usize {
-    if case.sort == list::SHEETS {
-        return 0;
-    }
-    case.made / 4
-}
-
 // Whether an answer is the case's.
-pub fn is_told(case: Case, number: usize, value: usize, words: usize) -> bool {
-    number == case.number && value == case.value && words == words_of(case)
+pub fn is_told(case: Case, number: usize, value: usize, also: usize) -> bool {
+    number == case.number && value == case.value && also == case.also
 }
 
 // An answer before what was lent is looked at.
-fn compared(case: Case, number: usize, value: usize, words: usize) -> Outcome {
+fn compared(case: Case, number: usize, value: usize, also: usize) -> Outcome {
     Outcome {
         number: number,
         value: value,
-        words: words,
-        right: is_told(case, number, value, words),
+        also: also,
+        right: is_told(case, number, value, also),
     }
 }
 
 fn refused(case: Case, why: Refusal, value: usize) -> Outcome {
-    compared(case, fields::number_of(why) as usize, value, 0)
+    compared(
+        case,
+        fields::number_of(why) as usize,
+        value,
+        fields::byte_of(why) as usize,
+    )
 }
 
 fn outcome_of(case: Case, answer: Answer) -> Outcome {
@@ -163,7 +160,7 @@ pub fn try_case(
     let not_run = Outcome {
         number: 16,
         value: 0,
-        words: 0,
+        also: 0,
         right: false,
     };
     if body.len() < body_room {

@@ -136,7 +136,7 @@ name-right : (pool ws : List ℕ) (i : ℕ) → named pool ws i ≡ Right
     → (leb (word ws i + word ws (i + 1)) (length pool) ≡ true) × (text (chars pool (word ws i) (word ws (i + 1))) ≡ true)
 unfolding named
 name-right pool ws i e =
-    let p = if-right (leb (word ws i + word ws (i + 1)) (length pool)) _ Range i e in (p .0, if-right _ Right Text i (p .1) .0)
+    let p = if-right (leb (word ws i + word ws (i + 1)) (length pool)) _ Range i e in (p .0, if-right _ Right (Text _) i (p .1) .0)
 
 pub name-inside : (pool ws : List ℕ) (i : ℕ) → named pool ws i ≡ Right → word ws i + word ws (i + 1) ≤ length pool
 name-inside pool ws i e = leb-true _ _ (name-right pool ws i e .0)

@@ -4,7 +4,7 @@ use mathlib.Core.Bool.{cond}
 use mathlib.Core.List.{List}
 use lib.Dec.{eqb, ltb, leb}
 use lib.ListN.{length}
-use Rattle.numbers.specs.Text.{text}
+use Rattle.numbers.specs.Text.{text, stop}
 use Rattle.fields.specs.declared.Field.{Field}
 use Rattle.fields.specs.declared.Field.the-variants as field
 use Rattle.fields.specs.declared.Refusal.the-variants.{Tag, Range, Text}
@@ -39,7 +39,7 @@ optionalValue ws i = cond (eqb (word ws i) 2) (unused ws (i + 1)) (value ws i)
 unfoldable pub named : List ℕ → List ℕ → ℕ → Flaw
 named pool ws i =
     cond (leb (word ws i + word ws (i + 1)) (length pool))
-    (cond (text (chars pool (word ws i) (word ws (i + 1)))) Right (Wrong Text i)) (Wrong Range i)
+    (cond (text (chars pool (word ws i) (word ws (i + 1)))) Right (Wrong (Text (stop (chars pool (word ws i) (word ws (i + 1))))) i)) (Wrong Range i)
 
 -- (present, index)
 unfoldable pub optionalIndex : List ℕ → Flaw

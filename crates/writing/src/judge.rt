@@ -3,6 +3,7 @@ use fields::Field;
 use fields::Flaw;
 use fields::Refusal;
 use fields::is_indexed;
+use numbers::Spelling;
 ghost use mathlib.Core.Bool.{true};
 ghost use mathlib.Core.Path.{_≡_};
 ghost use Prim.Native.Nat.{_<_, _+_, _^_};
@@ -97,13 +98,13 @@ fn named_at(pool: &[u8], ws: &[u32], i: usize) -> Flaw
     let start = word_at(ws, i) as usize;
     let size = word_at(ws, i + 1) as usize;
     let end = start + size;
-    if end <= pool.len() {
-        if numbers::is_text(&pool[start..end]) {
-            return Flaw::Right;
-        }
-        return Flaw::Wrong(Refusal::Text, i);
+    if pool.len() < end {
+        return Flaw::Wrong(Refusal::Range, i);
     }
-    Flaw::Wrong(Refusal::Range, i)
+    match numbers::spelling_of(&pool[start..end]) {
+        Spelling::Right => Flaw::Right,
+        Spelling::Stops(byte) => Flaw::Wrong(Refusal::Text(byte as u32), i),
+    }
 }
 
 fn optional_index_of(ws: &[u32]) -> Flaw

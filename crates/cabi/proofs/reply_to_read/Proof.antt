@@ -1,4 +1,4 @@
--- `cabi::reply_to_read` meets its contract: an item has words and bytes, and few words; a refusal has its number and its value.
+-- `cabi::reply_to_read` meets its contract: an item has words and bytes, and few words; a refusal has its number, its byte and its value.
 use native.Mathlib.Omega.{arith}
 use mathlib.Core.Path.{subst}
 use borrow.Author.Needs.{needs}
@@ -13,8 +13,8 @@ returns : tie.Need-returns
 returns c = simp (c .before .read .given .1)
 
 returns-2 : tie.Need-returns-2
-returns-2 c = simp (c .before .before .read2 .given .1, c .number-of .ensures)
+returns-2 c = simp (c .before .before .before .read2 .given .1, c .before .number-of .ensures, c .byte-of .ensures)
 
 pub reply-to-read-spec : {M : Type 1} → statement M
 reply-to-read-spec =
-    tie.close (tie.spec (search needs) cast-t7 (search needs) (λ c κs. search needs) returns returns-2)
+    tie.close (tie.spec (search needs) cast-t7 (search needs) (λ c κs. search needs) (λ c κs. search needs) returns returns-2)

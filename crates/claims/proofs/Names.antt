@@ -1,0 +1,73 @@
+-- The proof of `specs/Names.antt`, from the laws of `numbers` on where a name stops.
+use Prim.Native.Nat.{ℕ, _+_}
+use mathlib.Core.Path.{_≡_, refl, sym, subst}
+use mathlib.Core.Bool.{Bool, true, false, cond}
+use mathlib.Core.List.{List}
+use lib.Dec.{leb}
+use lib.ListN.{length, take, drop}
+use Rattle.numbers.specs.Beginnings.{LongestBeginning}
+use Rattle.numbers.specs.Leb.{takeUnsigned}
+use Rattle.numbers.specs.Text.{text, stop, spellingOf}
+use Rattle.numbers.specs.declared.leb.Taken.{Taken}
+use Rattle.numbers.specs.declared.leb.Taken.the-variants as taken
+use Rattle.numbers.proofs.Beginnings.{longest, stops-there}
+use Rattle.numbers.proofs.TextLaws.{right-text, spelled-right, spelled-wrong}
+use Rattle.numbers.proofs.Impossible.{impossible}
+use Rattle.fields.specs.declared.Flaw.{Flaw}
+use Rattle.fields.specs.declared.Flaw.the-variants.{Right, Wrong}
+use Rattle.fields.specs.declared.Leaf.{Leaf}
+use Rattle.fields.specs.declared.Leaf.the-variants.{Fine, Bad}
+use Rattle.fields.specs.declared.Refusal.the-variants as refusal
+use Rattle.fields.specs.Words.{word, chars}
+use Rattle.writing.specs.Judge as judge
+use Rattle.reading.specs.Scan as scans
+use Rattle.reading.specs.Scan.{cut, scanName}
+use Rattle.claims.specs.Names.{NamesStop}
+
+-- a name that is not text stops at its longest beginning
+stops-longest : (s : List ℕ) → text s ≡ false → LongestBeginning s (stop s)
+stops-longest s h = longest s (stop s) (spelled-wrong s h)
+
+in-row : (pool ws : List ℕ) (i byte at : ℕ) → judge.named pool ws i ≡ Wrong (refusal.Text byte) at
+    → (at ≡ i) × LongestBeginning (chars pool (word ws i) (word ws (i + 1))) byte
+unfolding judge.named
+in-row pool ws i byte at e = go (leb (word ws i + word ws (i + 1)) (length pool)) (text cs) refl e
+  where
+    cs : List ℕ
+    cs = chars pool (word ws i) (word ws (i + 1))
+
+    go : (a b : Bool) → text cs ≡ b → cond a (cond b Right (Wrong (refusal.Text (stop cs)) i)) (Wrong refusal.Range i) ≡ Wrong (refusal.Text byte) at
+        → (at ≡ i) × LongestBeginning cs byte
+    go true true h e = impossible cc
+    go true false h e =
+        let same : stop cs ≡ byte = cc in
+        let place : i ≡ at = cc in
+        (sym place, subst (LongestBeginning cs) same (stops-longest cs h))
+    go false b h e = impossible cc
+
+in-reading : (bs : List ℕ) (n t byte at : ℕ) → takeUnsigned bs ≡ taken.Value n t → scanName bs ≡ Bad (refusal.Text byte) at
+    → (at ≡ t) × LongestBeginning (take n (drop t bs)) byte
+unfolding scanName
+in-reading bs n t byte at v e = go (leb (t + n) (length bs)) (text cs) refl (rw v at e)
+  where
+    cs : List ℕ
+    cs = take n (drop t bs)
+
+    go : (a b : Bool) → text cs ≡ b → cond a (cond b (Fine (t + n) 2) (Bad (refusal.Text (stop cs)) t)) (cut bs) ≡ Bad (refusal.Text byte) at
+        → (at ≡ t) × LongestBeginning cs byte
+    go true true h e = impossible cc
+    go true false h e =
+        let same : stop cs ≡ byte = cc in
+        let place : t ≡ at = cc in
+        (sym place, subst (LongestBeginning cs) same (stops-longest cs h))
+    go false b h e = impossible cc
+
+pub names-stop : NamesStop
+names-stop =
+    record {
+      right = λ s. (right-text s, spelled-right s);
+      longest = longest;
+      no-other = stops-there;
+      in-row = in-row;
+      in-reading = in-reading;
+    }
