@@ -22,6 +22,7 @@ use Rattle.fields.specs.declared.Leaf.{Leaf}
 use Rattle.fields.specs.declared.Leaf.the-variants.{Fine, Bad}
 use Rattle.fields.specs.declared.Read.{Read}
 use Rattle.fields.specs.declared.Read.the-variants as read
+use Rattle.fields.specs.declared.Offset.{Offset}
 use Rattle.fields.specs.declared.Refusal.{Refusal}
 use Rattle.fields.specs.declared.Refusal.the-variants as refusal
 use Rattle.fields.specs.declared.Shape.{Shape}
@@ -33,7 +34,7 @@ use Rattle.writing.specs.Row.{measuredFound, measuredRow}
 use Rattle.fields.specs.Shape.{opening, group, closing, repeated, seq, counts, plan, widths, rowWidth}
 use Rattle.fields.specs.Table.{Line, shapeIn}
 use Rattle.fields.specs.Walk.{Plan, end, step, Side, next, walk}
-use Rattle.fields.specs.Answers.{numberOfRefusal, numberOf, Left}
+use Rattle.fields.specs.Answers.{offsetOf, numberOfRefusal, numberOf, Left}
 use Rattle.writing.specs.Write.{writer, judged, sized, measured, stored}
 use Rattle.writing.proofs.AnswerLaws.{Sized}
 use Rattle.writing.proofs.TableRows.{every, of-every}
@@ -119,7 +120,7 @@ nameless field.SortIndex = true
 
 -- TEXT, wherever the name stops
 abbrev pub AnyText : (Refusal → Type 0) → Type 0
-AnyText P = (byte : ℕ) → P (refusal.Text byte)
+AnyText P = (offset : Offset) → P (refusal.Text offset)
 
 -- where there are names, RANGE and TEXT come
 abbrev pub Names : (Refusal → Type 0) → Bool → Type 0
@@ -152,7 +153,7 @@ module _ (P : Refusal → Type 0) (tag : P refusal.Tag) where
   unfolding named
   named-why h pool ws i =
       on-test (Faulty P) (leb (word ws i + word ws (i + 1)) (length pool))
-      (on-test (Faulty P) (text (chars pool (word ws i) (word ws (i + 1)))) tt (h .1 (stop (chars pool (word ws i) (word ws (i + 1)))))) (h .0)
+      (on-test (Faulty P) (text (chars pool (word ws i) (word ws (i + 1)))) tt (h .1 (offsetOf (stop (chars pool (word ws i) (word ws (i + 1))))))) (h .0)
 
   optional-name-why : P refusal.Range × AnyText P → (pool ws : List ℕ) (i : ℕ) → Faulty P (optionalName pool ws i)
   unfolding optionalName

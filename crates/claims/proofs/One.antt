@@ -59,6 +59,7 @@ no-second-outcome = record {
   many-of = λ w κs a g x y. one w (λ l. (l, (tt, (tt, (tt, (tt, (tt, (tt, tt))))))));
   measure-row = λ w κs a g x y. one w (λ l. (l, (tt, (tt, (tt, tt)))));
   number-of = λ w κs a g x y. one w (λ l. (l, (tt, tt)));
+  offset-of = λ w κs a g x y. one w (λ l. (l, (tt, tt)));
   byte-of = λ w κs a g x y. one w (λ l. (l, (tt, tt)));
   measure-shape = λ w κs a g x y. one w (λ l. (l, (tt, (tt, (tt, (tt, tt))))));
   first-of = λ w κs a g x y. one w (λ l. (l, (tt, tt)));

@@ -16,7 +16,7 @@ use Rattle.fields.specs.declared.Leaf.the-variants.{Fine, Bad}
 use Rattle.fields.specs.declared.Refusal.{Refusal}
 use Rattle.fields.specs.declared.Refusal.the-variants as refusal
 use Rattle.fields.specs.Words.{indexed}
-use Rattle.fields.specs.Answers.{LeftRow}
+use Rattle.fields.specs.Answers.{LeftRow, offsetOf}
 use Rattle.reading.specs.Read.{reader, scanned, filled, roomed, readFound, readItem, scannedFound, scannedItem, refusalOf}
 use Rattle.reading.specs.Scan.{byte, there, asked, past, numbered, scanIndex, named, scanName, scanPrimitive, scanValue, zeroAt, either, scanOptional, thenZero, scanResult, scanChoice, onward, stringAt, counted, countAt, slotScan, endScan, headScan, firstScan, secondScan, scanExtern, scanBound, scanModule, three, scanReference, scanEither, scanOptionalIndex, scan, scanArgument, scanCoreSortIndex, scanSortIndex}
 use Rattle.fields.specs.Shape.{plan}
@@ -58,7 +58,7 @@ module _ (P : Refusal → Type 0) (h : Scans P) where
   name-why bs = go (takeUnsigned bs)
     where
       go : (t : Taken) → Why (named bs t)
-      go (taken.Value n t) = on-test Why (leb (t + n) (length bs)) (on-test Why (text (take n (drop t bs))) tt (h .text (stop (take n (drop t bs))))) (h .cut)
+      go (taken.Value n t) = on-test Why (leb (t + n) (length bs)) (on-test Why (text (take n (drop t bs))) tt (h .text (offsetOf (stop (take n (drop t bs)))))) (h .cut)
       go taken.Cut = h .cut
       go taken.Bad = h .number
 

@@ -13,7 +13,9 @@ use Rattle.numbers.specs.declared.leb.Taken.the-variants as taken
 use Rattle.numbers.specs.declared.text.Spelling.the-variants.{Right, Stops}
 use Rattle.fields.specs.declared.Flaw.the-variants as flaw
 use Rattle.fields.specs.declared.Leaf.the-variants as leaf
+use Rattle.fields.specs.declared.Offset.{Offset}
 use Rattle.fields.specs.declared.Refusal.the-variants as refusal
+use Rattle.fields.specs.Answers.{byteAt}
 use Rattle.fields.specs.Words.{word, chars}
 use Rattle.writing.specs.Judge.{named}
 use Rattle.reading.specs.Scan.{scanName}
@@ -25,8 +27,8 @@ pub record NamesStop : Type 0 where
   pub longest : (s : List ℕ) (n : ℕ) → spellingOf s ≡ Stops n → LongestBeginning s n
   pub no-other : (s : List ℕ) (n : ℕ) → text s ≡ false → LongestBeginning s n → spellingOf s ≡ Stops n
   -- TEXT of the name whose words stand at i of a row
-  pub in-row : (pool ws : List ℕ) (i byte at : ℕ) → named pool ws i ≡ flaw.Wrong (refusal.Text byte) at
-      → (at ≡ i) × LongestBeginning (chars pool (word ws i) (word ws (i + 1))) byte
+  pub in-row : (pool ws : List ℕ) (i at : ℕ) (offset : Offset) → named pool ws i ≡ flaw.Wrong (refusal.Text offset) at
+      → (at ≡ i) × LongestBeginning (chars pool (word ws i) (word ws (i + 1))) (byteAt offset)
   -- TEXT of the name at the front of what is read, whose length has t bytes
-  pub in-reading : (bs : List ℕ) (n t byte at : ℕ) → takeUnsigned bs ≡ taken.Value n t → scanName bs ≡ leaf.Bad (refusal.Text byte) at
-      → (at ≡ t) × LongestBeginning (take n (drop t bs)) byte
+  pub in-reading : (bs : List ℕ) (n t at : ℕ) (offset : Offset) → takeUnsigned bs ≡ taken.Value n t → scanName bs ≡ leaf.Bad (refusal.Text offset) at
+      → (at ≡ t) × LongestBeginning (take n (drop t bs)) (byteAt offset)

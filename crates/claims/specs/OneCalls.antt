@@ -24,6 +24,7 @@ use Rattle.fields.proofs.two_of as call-two-of
 use Rattle.fields.proofs.many_of as call-many-of
 use Rattle.writing.proofs.measure_row as call-measure-row
 use Rattle.fields.proofs.number_of as call-number-of
+use Rattle.fields.proofs.offset_of as call-offset-of
 use Rattle.fields.proofs.byte_of as call-byte-of
 use Rattle.writing.proofs.measure_shape as call-measure-shape
 use Rattle.fields.proofs.first_of as call-first-of
@@ -131,6 +132,7 @@ pub record NoSecondOutcome : Type 2 where
   pub two-of : OneOutcome call-two-of.ended (λ M. call-two-of.clauses)
   pub many-of : OneOutcome call-many-of.ended (λ M. call-many-of.clauses)
   pub number-of : OneOutcome call-number-of.ended (λ M. call-number-of.clauses)
+  pub offset-of : OneOutcome call-offset-of.ended (λ M. call-offset-of.clauses)
   pub byte-of : OneOutcome call-byte-of.ended (λ M. call-byte-of.clauses)
   pub first-of : OneOutcome call-first-of.ended (λ M. call-first-of.clauses)
   -- writing

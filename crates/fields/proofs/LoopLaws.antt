@@ -31,6 +31,16 @@ after-both L xs so l m fs gs el em = em ∙ ap (λ l. after l (onward L xs gs)) 
     go (Fine at made) = sym (along-append L fs gs xs at made)
     go (Bad w j) = refl
 
+-- two fields one by one are walked as the two: where the first is fine, and where it is not
+module _ (L : Field → List ℕ → Leaf) (xs : List ℕ) (f g : Field) (at made : ℕ) (l : Leaf) (el : l ≡ onward L xs (f ∷ []) at made) where
+  pub pair-fine : {next size : ℕ} → l ≡ Fine next size → (m : Leaf) → m ≡ onward L xs (g ∷ []) next size → m ≡ onward L xs (f ∷ g ∷ []) at made
+  pair-fine e m em =
+      after-both L xs (Fine at made) l m (f ∷ []) (g ∷ []) el (em ∙ sym (ap (λ l. after l (onward L xs (g ∷ []))) e))
+
+  pub pair-bad : (w : Refusal) (j : ℕ) → l ≡ Bad w j → Bad w j ≡ onward L xs (f ∷ g ∷ []) at made
+  pair-bad w j e =
+      after-both L xs (Fine at made) l (Bad w j) (f ∷ []) (g ∷ []) el (sym (ap (λ l. after l (onward L xs (g ∷ []))) e))
+
 -- with i groups walked, the walk over the rest of n, from here, is the whole
 pub record Walked (L : Field → List ℕ → Leaf) (xs : List ℕ) (g : List Field) (n from base i at made : ℕ) : Type 0 where
   pub count : i ≤ n

@@ -1,6 +1,7 @@
 -- What a call answers and leaves: document 01's number and value of each answer, and the buffer or row.
 use mathlib.Core.List.{List}
-use Prim.Native.Nat.{ℕ}
+use Prim.Native.Nat.{ℕ, _+_, _*_, _/_, _%_}
+use Rattle.fields.specs.declared.Offset.{Offset}
 use Rattle.fields.specs.declared.Refusal.{Refusal}
 use Rattle.fields.specs.declared.Refusal.the-variants as refusal
 use Rattle.fields.specs.declared.Answer.{Answer}
@@ -14,7 +15,7 @@ numberOfRefusal refusal.Kind = 2
 numberOfRefusal refusal.Row = 3
 numberOfRefusal refusal.Tag = 4
 numberOfRefusal refusal.Range = 5
-numberOfRefusal (refusal.Text byte) = 6
+numberOfRefusal (refusal.Text offset) = 6
 numberOfRefusal refusal.TooBig = 7
 numberOfRefusal refusal.Room = 8
 numberOfRefusal refusal.Order = 9
@@ -25,6 +26,13 @@ numberOfRefusal refusal.Number = 13
 numberOfRefusal refusal.Newer = 14
 numberOfRefusal refusal.Sheet = 15
 
+-- the offset of a byte in a name, by its halves, and the byte at an offset
+abbrev pub offsetOf : ℕ → Offset
+offsetOf byte = record { high = byte / 65536; low = byte % 65536 }
+
+abbrev pub byteAt : Offset → ℕ
+byteAt offset = offset .high * 65536 + offset .low
+
 -- the second number of a refusal: the byte at which a name stops, and 0 of every other
 unfoldable pub byteOfRefusal : Refusal → ℕ
 byteOfRefusal refusal.Limit = 0
@@ -32,7 +40,7 @@ byteOfRefusal refusal.Kind = 0
 byteOfRefusal refusal.Row = 0
 byteOfRefusal refusal.Tag = 0
 byteOfRefusal refusal.Range = 0
-byteOfRefusal (refusal.Text byte) = byte
+byteOfRefusal (refusal.Text offset) = byteAt offset
 byteOfRefusal refusal.TooBig = 0
 byteOfRefusal refusal.Room = 0
 byteOfRefusal refusal.Order = 0

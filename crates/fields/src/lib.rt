@@ -5,6 +5,7 @@ mod words;
 
 pub use refusals::byte_of;
 pub use refusals::number_of;
+pub use refusals::offset_of;
 pub use shapes::many_of;
 pub use shapes::two_of;
 pub use words::first_of;
@@ -81,6 +82,12 @@ pub enum Found {
     Not,
 }
 
+// The offset of a byte in a name, in two halves: a refusal with it has room beside its place in two machine words.
+pub struct Offset {
+    pub high: u16,
+    pub low: u16,
+}
+
 // Why something is refused, by document 01's names and in the order of its numbers, from 1 on.
 pub enum Refusal {
     // A number on the wall is passed, or a state is none.
@@ -94,7 +101,7 @@ pub enum Refusal {
     // A name that ends past the pool.
     Range,
     // A name that is not UTF-8: the offset in it of the first byte at which no well-formed name can go on, its length where it ends early.
-    Text(u32),
+    Text(Offset),
     // A size that passes 4,294,967,295.
     TooBig,
     // Output or row too small.

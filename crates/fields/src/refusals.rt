@@ -1,7 +1,8 @@
 // Document 01's numbers of each refusal.
+use crate::Offset;
 use crate::Refusal;
 ghost use mathlib.Core.Path.{_≡_};
-ghost use Rattle.fields.specs.Answers.{numberOfRefusal, byteOfRefusal};
+ghost use Rattle.fields.specs.Answers.{numberOfRefusal, offsetOf, byteAt, byteOfRefusal};
 
 // The number of a refusal; 0 is no refusal's.
 pub fn number_of(why: Refusal) -> u32
@@ -26,6 +27,24 @@ pub fn number_of(why: Refusal) -> u32
     }
 }
 
+// A byte's offset by its halves.
+pub fn offset_of(byte: u32) -> Offset
+    ensures { λ r. ⌜ r ≡ offsetOf byte ⌝ }
+{
+    Offset {
+        high: (byte / 65536) as u16,
+        low: (byte % 65536) as u16,
+    }
+}
+
+fn byte_at(offset: Offset) -> u32
+    ensures { λ r. ⌜ r ≡ byteAt offset ⌝ }
+{
+    let high = offset.high as u32;
+    let low = offset.low as u32;
+    high * 65536 + low
+}
+
 // The byte at which a name stops, of TEXT; 0 of every other refusal.
 pub fn byte_of(why: Refusal) -> u32
     ensures { λ r. ⌜ r ≡ byteOfRefusal why ⌝ }
@@ -36,7 +55,7 @@ pub fn byte_of(why: Refusal) -> u32
         Refusal::Row => 0,
         Refusal::Tag => 0,
         Refusal::Range => 0,
-        Refusal::Text(byte) => byte,
+        Refusal::Text(offset) => byte_at(offset),
         Refusal::TooBig => 0,
         Refusal::Room => 0,
         Refusal::Order => 0,

@@ -25,6 +25,7 @@ use Rattle.fields.specs.declared.Leaf.{Leaf}
 use Rattle.fields.specs.declared.Leaf.the-variants.{Fine, Bad}
 use Rattle.fields.specs.declared.Refusal.the-variants.{Text}
 use Rattle.reading.specs.Fill.{valueIn, sizeIn, fillName, fill}
+use Rattle.fields.specs.Answers.{offsetOf}
 use Rattle.fields.specs.Words.{wide}
 use Rattle.fields.specs.inside.Run.{along, makes}
 use Rattle.reading.specs.Scan.{cut, named, scanName, scan}
@@ -246,7 +247,7 @@ pub name-words : (g at : ℕ) (bs : List ℕ) (t m : ℕ) → scan 1 g field.Nam
 unfolding scan scanName fill fillName
 name-words g at bs t m e = go (takeUnsigned bs) refl e
   where
-    fits : (n k byte : ℕ) (p q : Bool) → cond p (cond q (Fine (k + n) 2) (Bad (Text byte) k)) (cut bs) ≡ Fine t m → t ≡ k + n
+    fits : (n k byte : ℕ) (p q : Bool) → cond p (cond q (Fine (k + n) 2) (Bad (Text (offsetOf byte)) k)) (cut bs) ≡ Fine t m → t ≡ k + n
     fits n k byte true true e = cc
     fits n k byte true false e = impossible cc
     fits n k byte false q e = impossible cc

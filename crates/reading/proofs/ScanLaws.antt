@@ -19,6 +19,7 @@ use Rattle.fields.specs.declared.Refusal.{Refusal}
 use Rattle.fields.specs.declared.Refusal.the-variants.{Text}
 use Rattle.fields.specs.declared.Leaf.{Leaf}
 use Rattle.fields.specs.declared.Leaf.the-variants.{Fine, Bad}
+use Rattle.fields.specs.Answers.{offsetOf}
 use Rattle.fields.specs.Words.{indexed, wide}
 use Rattle.reading.specs.inside.Stages.{Inside}
 use Rattle.reading.specs.Scan.{byte, cut, there, asked, past, numbered, scanIndex, named, scanName, scanPrimitive, scanValue, zeroAt, either, scanOptional, thenZero, scanResult, scanChoice, onward, stringAt, counted, countAt, slotScan, endScan, headScan, firstScan, secondScan, scanExtern, scanBound, scanModule, three, scanReference, scanEither, scanOptionalIndex, scan, scanArgument, scanCoreSortIndex, scanSortIndex}
@@ -119,7 +120,7 @@ unfolding scanName
 name-near bs = go (takeUnsigned bs) refl
   where
     fits : (n t : ℕ) → t ≤ length bs → (b : Bool) → leb (t + n) (length bs) ≡ b
-        → Near (length bs) (Words 2) (cond b (cond (text (take n (drop t bs))) (Fine (t + n) 2) (Bad (Text (stop (take n (drop t bs)))) t)) (cut bs))
+        → Near (length bs) (Words 2) (cond b (cond (text (take n (drop t bs))) (Fine (t + n) 2) (Bad (Text (offsetOf (stop (take n (drop t bs))))) t)) (cut bs))
     fits n t h true e = cond-near (text (take n (drop t bs))) (fine (t + n) 2 (leb-true (t + n) (length bs) e) refl) (bad _ t h)
     fits n t h false e = cut-near bs
 

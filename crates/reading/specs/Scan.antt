@@ -15,6 +15,7 @@ use Rattle.fields.specs.declared.Refusal.{Refusal}
 use Rattle.fields.specs.declared.Refusal.the-variants.{Text, Cut, Code, Number, Newer}
 use Rattle.fields.specs.declared.Leaf.{Leaf}
 use Rattle.fields.specs.declared.Leaf.the-variants.{Fine, Bad}
+use Rattle.fields.specs.Answers.{offsetOf}
 use Rattle.fields.specs.Words.{indexed}
 
 -- the byte at i
@@ -49,7 +50,7 @@ scanIndex m bs = numbered bs (takeUnsigned bs) m
 
 -- a name: its length, and its bytes, which are text
 abbrev pub named : List ℕ → Taken → Leaf
-named bs (taken.Value n t) = cond (leb (t + n) (length bs)) (cond (text (take n (drop t bs))) (Fine (t + n) 2) (Bad (Text (stop (take n (drop t bs)))) t)) (cut bs)
+named bs (taken.Value n t) = cond (leb (t + n) (length bs)) (cond (text (take n (drop t bs))) (Fine (t + n) 2) (Bad (Text (offsetOf (stop (take n (drop t bs))))) t)) (cut bs)
 named bs taken.Cut = cut bs
 named bs taken.Bad = Bad Number 0
 

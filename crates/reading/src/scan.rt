@@ -3,6 +3,7 @@ use fields::Field;
 use fields::Leaf;
 use fields::Refusal;
 use fields::is_indexed;
+use fields::offset_of;
 use numbers::Spelling;
 use numbers::Taken;
 ghost use mathlib.Core.Path.{_≡_};
@@ -82,7 +83,7 @@ fn scan_name(bs: &[u8]) -> Leaf
             if end <= bs.len() {
                 return match numbers::spelling_of(&bs[t..end]) {
                     Spelling::Right => Leaf::Fine(end, 2),
-                    Spelling::Stops(byte) => Leaf::Bad(Refusal::Text(byte as u32), t),
+                    Spelling::Stops(byte) => Leaf::Bad(Refusal::Text(offset_of(byte as u32)), t),
                 };
             }
             cut_short(bs)

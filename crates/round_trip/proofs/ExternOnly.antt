@@ -19,6 +19,7 @@ use Rattle.numbers.proofs.LebLaws.{taken-only, taken-inside, one-byte}
 use Rattle.fields.specs.declared.Field.the-variants as field
 use Rattle.fields.specs.declared.Flaw.the-variants.{Right}
 use Rattle.fields.specs.declared.Refusal.the-variants.{Text, Code}
+use Rattle.fields.specs.Answers.{offsetOf}
 use Rattle.fields.specs.declared.Leaf.{Leaf}
 use Rattle.fields.specs.declared.Leaf.the-variants.{Fine, Bad}
 use Rattle.fields.specs.Words.{word, chars, wide}
@@ -100,7 +101,7 @@ name-found l t m f e = go (takeUnsigned l) refl e
     go (taken.Value n k) q e = test (stop (take n (drop k l))) (leb (k + n) (length l)) (text (take n (drop k l))) refl refl e
       where
         test : (byte : ℕ) (a b : Bool) → leb (k + n) (length l) ≡ a → text (take n (drop k l)) ≡ b
-            → cond a (cond b (Fine (k + n) 2) (Bad (Text byte) k)) (cut l) ≡ Fine t m → NameFound l t m
+            → cond a (cond b (Fine (k + n) 2) (Bad (Text (offsetOf byte)) k)) (cut l) ≡ Fine t m → NameFound l t m
         test byte true true ha hb e =
             let et : k + n ≡ t = cc in
             let o = taken-only u32 l n k f q in

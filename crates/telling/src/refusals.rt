@@ -54,7 +54,7 @@ fn print_meaning(number: usize) -> usize {
 // The byte at which a name stops.
 fn print_byte(why: Refusal) -> u64 {
     match why {
-        Refusal::Text(byte) => say_field(b" byte ", byte as u64),
+        Refusal::Text(_) => say_field(b" byte ", fields::byte_of(why) as u64),
         _ => 0,
     }
 }

@@ -4,13 +4,14 @@ use native.Mathlib.Omega.{arith}
 use mathlib.Core.Path.{_≡_, refl, sym, ap, _∙_}
 use mathlib.Core.Bool.{Bool, true, false, cond}
 use mathlib.Core.List.{List, [], _∷_, _++_}
-use borrow.Author.Tests.{eq-eqb, ne-eqb, eqb-false, le-leb, lt-leb, leb-true}
-use lib.Dec.{eqb, leb}
+use borrow.Author.Tests.{eq-eqb, ne-eqb, eqb-false, le-leb, lt-leb, leb-true, lt-ltb}
+use lib.Dec.{eqb, ltb, leb}
 use lib.ListN.{length, take, drop, set, length-append}
 use lib.Seq.{sets, length-sets}
 use Rattle.numbers.specs.Bytes.{Left, left, store, partOf}
 use Rattle.numbers.specs.Leb.{unsigned}
 use Rattle.numbers.specs.Numbers.{valueOf}
+use Rattle.numbers.specs.Text.{text}
 use Rattle.numbers.specs.declared.bytes.Stored.{Stored}
 use Rattle.numbers.specs.declared.bytes.Stored.the-variants.{Size, Room}
 use Rattle.numbers.proofs.BytesLaws.{store-fits, store-room, to-end}
@@ -19,11 +20,12 @@ use Rattle.fields.specs.declared.Field.the-variants as field
 use Rattle.fields.specs.declared.Flaw.{Flaw}
 use Rattle.fields.specs.declared.Flaw.the-variants.{Right, Wrong}
 use Rattle.fields.specs.declared.Refusal.{Refusal}
+use Rattle.fields.specs.declared.Refusal.the-variants as refusal
 use Rattle.fields.specs.Words.{word, chars, wide}
 use Rattle.writing.specs.Binary.{name, flag, slotAt, slotsAt, slots, externname, slotInside, externInside, externPart, bytes}
-use Rattle.writing.specs.Judge.{named, flaw}
+use Rattle.writing.specs.Judge.{then, unused, named, optionalName, flaw}
 use Rattle.writing.specs.Sizes.{within, sizeIf, rightSize}
-use Rattle.writing.specs.inside.Extern.{optionWords, SlotInside, ExternInside}
+use Rattle.writing.specs.inside.Extern.{optionWords, isRight, SlotInside, ExternInside}
 use Rattle.writing.specs.inside.Rows.{Known}
 use Rattle.writing.specs.inside.Size.{externSize, size}
 use Rattle.writing.specs.inside.Wrote.{Wrote}
@@ -54,6 +56,79 @@ led-size : (x : Flaw) (n : ℕ) {one : ℕ} → 1 ≤ n → one ≡ sizeIf x n
     → (0 < one → 1 + one ≡ sizeIf x (suc n)) × (one ≤ 0 → 0 ≡ sizeIf x (suc n))
 led-size Right n h e = (λ p. omega arith, λ p. absurd (omega arith))
 led-size (Wrong w j) n h e = (λ p. absurd (omega arith), λ p. refl)
+
+-- ---- whether it is right, without a place
+
+right-if : (b : Bool) (w : Refusal) (j : ℕ) → isRight (cond b Right (Wrong w j)) ≡ b
+right-if true w j = refl
+right-if false w j = refl
+
+right-both : (x y : Flaw) → isRight (then x y) ≡ cond (isRight x) (isRight y) false
+right-both Right y = refl
+right-both (Wrong w j) y = refl
+
+right-is : (x : Flaw) → isRight x ≡ true → x ≡ Right
+right-is Right e = refl
+right-is (Wrong w j) e = impossible cc
+
+wrong-none : (x : Flaw) (n : ℕ) → isRight x ≡ false → 0 ≡ sizeIf x n
+wrong-none Right n e = impossible cc
+wrong-none (Wrong w j) n e = refl
+
+some-right : (x : Flaw) (n : ℕ) → 1 ≤ n → ltb 0 (sizeIf x n) ≡ isRight x
+some-right Right n h = lt-ltb 0 n h
+some-right (Wrong w j) n h = refl
+
+named-right : (pool ws : List ℕ) (k : ℕ)
+    → isRight (named pool ws k) ≡ cond (leb (word ws k + word ws (k + 1)) (length pool)) (text (chars pool (word ws k) (word ws (k + 1)))) false
+unfolding named
+named-right pool ws k =
+    go (leb (word ws k + word ws (k + 1)) (length pool)) (text (chars pool (word ws k) (word ws (k + 1)))) _
+  where
+    go : (a b : Bool) (w : Refusal) → isRight (cond a (cond b Right (Wrong w k)) (Wrong refusal.Range k)) ≡ cond a b false
+    go true true w = refl
+    go true false w = refl
+    go false b w = refl
+
+-- a name that has a size is right
+pub name-test : (pool ws : List ℕ) (k : ℕ) {s n one : ℕ} → s ≡ word ws k → n ≡ word ws (k + 1) → one ≡ rightSize pool field.Name (s ∷ n ∷ [])
+    → ltb 0 one ≡ isRight (named pool ws k)
+unfolding rightSize flaw bytes
+name-test pool ws k {s} {n} es en eo =
+    ap (ltb 0) eo ∙ some-right (named pool (s ∷ n ∷ []) 0) _ (name-some pool s n) ∙ named-right pool (s ∷ n ∷ []) 0
+    ∙ (λ i. cond (leb (es i + en i) (length pool)) (text (chars pool (es i) (en i))) false) ∙ sym (named-right pool ws k)
+
+-- an option: absent, and its other words unused; present, and its name right; neither
+module _ (pool ws : List ℕ) (i : ℕ) {p : ℕ} (ep : p ≡ word ws i) where
+  pub absent-test : p ≡ 0 → {s n : ℕ} → s ≡ word ws (i + 1) → n ≡ word ws (i + 2)
+      → cond (eqb s 0) (eqb n 0) false ≡ isRight (optionalName pool ws i)
+  unfolding optionalName
+  absent-test z es en =
+      simp (eq-eqb _ _ (sym ep ∙ z), right-both (unused ws (i + 1)) (unused ws (i + 2)), right-if, es, en)
+
+  pub present-test : p ≡ 1 → {s n one : ℕ} → s ≡ word ws (i + 1) → n ≡ word ws (i + 2) → one ≡ rightSize pool field.Name (s ∷ n ∷ [])
+      → ltb 0 one ≡ isRight (optionalName pool ws i)
+  unfolding optionalName
+  present-test z es en eo =
+      let next : i + 2 ≡ i + 1 + 1 = omega arith in
+      name-test pool ws (i + 1) es (en ∙ ap (λ k. word ws k) next) eo
+      ∙ simp (eq-eqb _ _ (sym ep ∙ z), ne-eqb (word ws i) 0 (λ e. absurd (omega arith)))
+
+  pub neither-test : (p ≡ 0 → ⊥) → (p ≡ 1 → ⊥) → false ≡ isRight (optionalName pool ws i)
+  unfolding optionalName
+  neither-test a b = simp (ne-eqb _ _ (λ e. a (ep ∙ e)), ne-eqb _ _ (λ e. b (ep ∙ e)))
+
+-- the name and its options
+pub extern-test : (pool ws : List ℕ)
+    → isRight (flaw pool field.ExternName ws)
+    ≡ cond (isRight (named pool ws 0)) (cond (isRight (optionalName pool ws 2)) (cond (isRight (optionalName pool ws 5)) (isRight (optionalName pool ws 8)) false) false) false
+unfolding flaw
+extern-test pool ws =
+    simp (
+      right-both (named pool ws 0) (then (optionalName pool ws 2) (then (optionalName pool ws 5) (optionalName pool ws 8))),
+      right-both (optionalName pool ws 2) (then (optionalName pool ws 5) (optionalName pool ws 8)),
+      right-both (optionalName pool ws 5) (optionalName pool ws 8),
+    )
 
 both-true : (a b : Bool) → cond a b false ≡ true → (a ≡ true) × (b ≡ true)
 both-true true b e = (refl, e)
@@ -117,13 +192,13 @@ module _ (pool ws : List ℕ) where
       (eo ∙ (λ i. rightSize pool field.Name (es i ∷ en i ∷ []))) in
       (λ h. p .0 h ∙ sym whole, λ h. p .1 h ∙ sym whole)
 
-  pub right-size : flaw pool field.ExternName ws ≡ Right → {r : ℕ} → r ≡ externSize ws → r ≡ rightSize pool field.ExternName ws
+  pub right-size : isRight (flaw pool field.ExternName ws) ≡ true → {r : ℕ} → r ≡ externSize ws → r ≡ rightSize pool field.ExternName ws
   unfolding rightSize size
-  right-size e er = er ∙ sym (rw e (size-right pool field.ExternName ws e))
+  right-size t er = let e = right-is (flaw pool field.ExternName ws) t in er ∙ sym (rw e (size-right pool field.ExternName ws e))
 
-  pub wrong-size : {w : Refusal} {j : ℕ} → flaw pool field.ExternName ws ≡ Wrong w j → 0 ≡ rightSize pool field.ExternName ws
+  pub wrong-size : isRight (flaw pool field.ExternName ws) ≡ false → 0 ≡ rightSize pool field.ExternName ws
   unfolding rightSize
-  wrong-size e = rw e
+  wrong-size e = wrong-none (flaw pool field.ExternName ws) _ e
 
   pub extern-bound : length pool ≤ 65536 → rightSize pool field.ExternName ws ≤ 360471
   unfolding rightSize wide

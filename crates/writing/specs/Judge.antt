@@ -12,6 +12,7 @@ use Rattle.fields.specs.declared.Flaw.{Flaw}
 use Rattle.fields.specs.declared.Flaw.the-variants.{Right, Wrong}
 use Rattle.fields.specs.declared.Leaf.{Leaf}
 use Rattle.fields.specs.declared.Leaf.the-variants.{Fine, Bad}
+use Rattle.fields.specs.Answers.{offsetOf}
 use Rattle.fields.specs.Words.{word, chars, indexed, wide}
 use Rattle.writing.specs.Binary.{bytes}
 
@@ -39,7 +40,7 @@ optionalValue ws i = cond (eqb (word ws i) 2) (unused ws (i + 1)) (value ws i)
 unfoldable pub named : List ℕ → List ℕ → ℕ → Flaw
 named pool ws i =
     cond (leb (word ws i + word ws (i + 1)) (length pool))
-    (cond (text (chars pool (word ws i) (word ws (i + 1)))) Right (Wrong (Text (stop (chars pool (word ws i) (word ws (i + 1))))) i)) (Wrong Range i)
+    (cond (text (chars pool (word ws i) (word ws (i + 1)))) Right (Wrong (Text (offsetOf (stop (chars pool (word ws i) (word ws (i + 1)))))) i)) (Wrong Range i)
 
 -- (present, index)
 unfoldable pub optionalIndex : List ℕ → Flaw

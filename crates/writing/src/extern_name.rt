@@ -1,12 +1,10 @@
 // An extern name in straight code: how many bytes it has, 0 where it is not right, and its bytes at a place.
 use crate::fits;
-use crate::judge::extern_name_of;
 use crate::judge::is_bare;
 use crate::judge::word_at;
 use crate::name_size;
 use crate::put_name;
 use crate::size::slots_of;
-use fields::Flaw;
 use numbers::Stored;
 use numbers::stored_size;
 ghost use Prim.Native.Nat.{_<_, _≤_, _+_, _^_};
@@ -17,9 +15,45 @@ ghost use lib.Seq.{sets};
 ghost use Rattle.numbers.specs.Bytes.{left, store};
 ghost use Rattle.fields.specs.declared.Field.the-variants as field;
 ghost use Rattle.writing.specs.Binary.{name, slotAt, slotsAt, externname, slotInside, externInside, externPart};
+ghost use Rattle.writing.specs.Judge.{optionalName, flaw};
 ghost use Rattle.writing.specs.Sizes.{rightSize};
-ghost use Rattle.writing.specs.inside.Extern.{SlotInside, ExternInside};
+ghost use Rattle.writing.specs.inside.Extern.{isRight, SlotInside, ExternInside};
 ghost use Rattle.writing.specs.inside.Wrote.{Wrote};
+
+// Whether an option is right: absent, its other words unused, or present with a name.
+fn is_option(pool: &[u8], ws: &[u32], i: usize) -> bool
+    requires { ⌜ i < 99 ⌝ }
+    ensures { λ r. ⌜ r ≡ isRight (optionalName (now (pool .entry)) (now (ws .entry)) i) ⌝ }
+{
+    let present = word_at(ws, i);
+    let start = word_at(ws, i + 1);
+    let size = word_at(ws, i + 2);
+    if present == 0 {
+        if start == 0 {
+            return size == 0;
+        }
+        return false;
+    }
+    if present == 1 {
+        return 0 < name_size(pool, start, size);
+    }
+    false
+}
+
+// Whether an extern name is right. Where and why it is not, the walk says of a row that is refused.
+fn is_right(pool: &[u8], ws: &[u32]) -> bool
+    ensures { λ r. ⌜ r ≡ isRight (flaw (now (pool .entry)) field.ExternName (now (ws .entry))) ⌝ }
+{
+    let name = name_size(pool, word_at(ws, 0), word_at(ws, 1));
+    if 0 < name {
+        if is_option(pool, ws, 2) {
+            if is_option(pool, ws, 5) {
+                return is_option(pool, ws, 8);
+            }
+        }
+    }
+    false
+}
 
 // How many bytes an extern name has, whose words stand at the front of ws; 0 where it is not right.
 pub fn extern_size(pool: &[u8], ws: &[u32]) -> usize
@@ -32,10 +66,10 @@ pub fn extern_size(pool: &[u8], ws: &[u32]) -> usize
         }
         return 0;
     }
-    match extern_name_of(pool, ws) {
-        Flaw::Right => crate::size::extern_size(ws),
-        Flaw::Wrong(_, _) => 0,
+    if is_right(pool, ws) {
+        return crate::size::extern_size(ws);
     }
+    0
 }
 
 // Whether an option is absent, or its name ends within the pool.
@@ -166,7 +200,6 @@ fn put_bare(pool: &[u8], start: u32, size: u32, at: usize, out: &mut [u8]) -> St
 }
 
 // An extern name at a place: 00 and a name, or 02, a name, a count and options; nothing where a name runs past the pool.
-// (That `put_any` is called twice keeps it out of the way that most names take: called once it would be compiled into it.)
 pub fn put_extern(pool: &[u8], ws: &[u32], at: usize, out: &mut [u8]) -> Stored
     ensures { λ r. ⌜ left r (now (out .exit)) ≡ store (externPart (now (pool .entry)) (now (ws .entry))) at (now (out .entry)) ⌝ }
 {

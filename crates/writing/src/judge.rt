@@ -3,6 +3,7 @@ use fields::Field;
 use fields::Flaw;
 use fields::Refusal;
 use fields::is_indexed;
+use fields::offset_of;
 use numbers::Spelling;
 ghost use mathlib.Core.Bool.{true};
 ghost use mathlib.Core.Path.{_≡_};
@@ -103,7 +104,7 @@ fn named_at(pool: &[u8], ws: &[u32], i: usize) -> Flaw
     }
     match numbers::spelling_of(&pool[start..end]) {
         Spelling::Right => Flaw::Right,
-        Spelling::Stops(byte) => Flaw::Wrong(Refusal::Text(byte as u32), i),
+        Spelling::Stops(byte) => Flaw::Wrong(Refusal::Text(offset_of(byte as u32)), i),
     }
 }
 

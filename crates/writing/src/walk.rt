@@ -36,12 +36,10 @@ fn judge_one(f: Field, pool: &[u8], row: &[u32], at: usize, made: usize) -> Leaf
     ensures { λ r. ⌜ r ≡ along (judge (now (pool .entry))) (f ∷ []) (drop at (now (row .entry))) at made ⌝ }
 {
     let ws = rest_of(row, at);
+    let next = at + wide_of(f);
+    let size = made + size_of(f, ws);
     match flaw_of(f, pool, ws) {
-        Flaw::Right => {
-            let next = at + wide_of(f);
-            let size = made + size_of(f, ws);
-            Leaf::Fine(next, size)
-        }
+        Flaw::Right => Leaf::Fine(next, size),
         Flaw::Wrong(why, word) => {
             let place = at + word;
             Leaf::Bad(why, place)
@@ -84,7 +82,16 @@ fn judge_groups(s: Shape, n: usize, pool: &[u8], row: &[u32], from: usize, base:
     let mut made = base;
     let mut i: usize = 0;
     while i < n {
-        match judge_two(Leaf::Fine(at, made), one, two, pool, row) {
+        match judge_one(one, pool, row, at, made) {
+            Leaf::Fine(next, size) => {
+                at = next;
+                made = size;
+            }
+            Leaf::Bad(why, place) => {
+                return Leaf::Bad(why, place);
+            }
+        }
+        match judge_one(two, pool, row, at, made) {
             Leaf::Fine(next, size) => {
                 at = next;
                 made = size;

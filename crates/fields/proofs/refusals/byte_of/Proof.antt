@@ -26,7 +26,7 @@ returns-5 c = rw (c .enum-told5 .given .1)
 
 returns-6 : tie.Need-returns-6
 unfolding byteOfRefusal
-returns-6 c = rw (c .before .why .given .1)
+returns-6 c = rw (c .before .before .why .given .1) (c .byte-at .ensures)
 
 returns-7 : tie.Need-returns-7
 unfolding byteOfRefusal
@@ -69,5 +69,5 @@ byte-of-spec =
     tie.close
     (tie.spec (search needs) (search needs) (search needs) (search needs) (search needs) (search needs) (search needs)
     (search needs) (search needs) (search needs) (search needs) (search needs) (search needs) (search needs)
-    (search needs) returns returns-2 returns-3 returns-4 returns-5 returns-6 returns-7 returns-8 returns-9 returns-10
+    (search needs) (search needs) returns returns-2 returns-3 returns-4 returns-5 returns-6 returns-7 returns-8 returns-9 returns-10
     returns-11 returns-12 returns-13 returns-14 returns-15)

@@ -21,7 +21,7 @@ add-end c =
     let size = taken-inside u32 (now (c .before .before .before .before .before .args .bs)) _ _ found in
     omega arith
 
-cast-byte : tie.Need-cast-t16
+cast-byte : tie.Need-cast-offset-of
 cast-byte c =
     let at = c .before .before .before in
     let test = at .before .before in
@@ -45,10 +45,11 @@ returns c =
 returns-2 : tie.Need-returns-2
 unfolding scanName
 returns-2 c =
-    let at = c .before .before .before in
+    let at = c .before .before .before .before in
     let test = at .before .before in
-    let stops = sym (at .spelling-of .ensures) ∙ c .before .byte .given .1 in
+    let stops = sym (at .spelling-of .ensures) ∙ c .before .before .byte .given .1 in
     simp (
+      c .offset-of .ensures,
       sym (test .before .before .before .before .take-unsigned .ensures),
       test .before .before .n .given .1,
       le-leb _ _ (test .if1 .taken),
@@ -77,5 +78,5 @@ pub scan-name-spec : {M : Type 1} → statement M
 scan-name-spec =
     tie.close
     (tie.spec (λ c κs. search needs) (search needs) (search needs) add-end (search needs) (search needs)
-    (search needs) (λ c κs. search needs) (search needs) (search needs) cast-byte returns returns-2 (λ c κs. search needs) (search needs)
+    (search needs) (λ c κs. search needs) (search needs) (search needs) cast-byte (λ c κs. search needs) returns returns-2 (λ c κs. search needs) (search needs)
     (λ c κs. search needs) (search needs) returns-3 returns-4 returns-5)

@@ -1,4 +1,4 @@
--- `extern_size`: without options the name alone is judged (`plain-size`); else the flaw decides.
+-- `extern_size`: without options the name alone is judged (`plain-size`); else whether it is right decides.
 use native.Mathlib.Omega.{arith}
 use mathlib.Core.Path.{sym, _∙_}
 use denote.Ref.{now}
@@ -31,17 +31,18 @@ returns-2 c =
 
 returns-3 : tie.Need-returns-3
 returns-3 c =
-    let judged = c .before .before .before in
+    let judged = c .before .before in
     let a = judged .before .before .before .before .before .args in
-    right-size (now (a .pool)) (now (a .ws)) (sym (judged .extern-name-of .ensures) ∙ c .before .enum-told .given .1) (c .extern-size .ensures .0)
+    right-size (now (a .pool)) (now (a .ws)) (sym (judged .is-right .ensures) ∙ c .before .if3 .taken) (c .extern-size .ensures .0)
 
 returns-4 : tie.Need-returns-4
 returns-4 c =
-    let judged = c .before .before in
+    let judged = c .before in
     let a = judged .before .before .before .before .before .args in
-    wrong-size (now (a .pool)) (now (a .ws)) (sym (judged .extern-name-of .ensures) ∙ c .enum-told2 .given .1)
+    wrong-size (now (a .pool)) (now (a .ws)) (sym (judged .is-right .ensures) ∙ c .if3 .left)
 
 pub extern-size-spec : {M : Type 1} → statement M
 extern-size-spec =
     tie.close
-    (tie.spec (λ c κs. search needs) (λ c κs. search needs) (λ c κs. search needs) (λ c κs. search needs) add-result returns returns-2 (λ c κs. search needs) (search needs) (λ c κs. search needs) (search needs) returns-3 returns-4)
+    (tie.spec (λ c κs. search needs) (λ c κs. search needs) (λ c κs. search needs) (λ c κs. search needs) add-result returns returns-2 (λ c κs. search needs)
+    (λ c κs. search needs) returns-3 returns-4)

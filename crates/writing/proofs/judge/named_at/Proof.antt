@@ -17,7 +17,7 @@ returns : tie.Need-returns
 unfolding named
 returns c = simp (sym (c .before .before .word-at .ensures), sym (c .before .word-at2 .ensures), lt-leb _ _ (c .if1 .taken))
 
-cast-byte : tie.Need-cast-t17
+cast-byte : tie.Need-cast-offset-of
 cast-byte c =
     let at = c .before .before .before in
     let test = at .before .before in
@@ -41,10 +41,11 @@ returns-2 c =
 returns-3 : tie.Need-returns-3
 unfolding named
 returns-3 c =
-    let at = c .before .before .before in
+    let at = c .before .before .before .before in
     let test = at .before .before in
-    let stops = sym (at .spelling-of .ensures) ∙ c .before .byte .given .1 in
+    let stops = sym (at .spelling-of .ensures) ∙ c .before .before .byte .given .1 in
     simp (
+      c .offset-of .ensures,
       sym (test .before .before .word-at .ensures),
       sym (test .before .word-at2 .ensures),
       le-leb _ _ (test .if1 .left),
@@ -56,4 +57,4 @@ pub named-at-spec : {M : Type 1} → statement M
 named-at-spec =
     tie.close
     (tie.spec (λ c κs. search needs) (search needs) (search needs) (λ c κs. search needs) (search needs) (search needs)
-    returns (search needs) (search needs) (search needs) (λ c κs. search needs) (search needs) (search needs) cast-byte returns-2 returns-3)
+    returns (search needs) (search needs) (search needs) (λ c κs. search needs) (search needs) (search needs) cast-byte (λ c κs. search needs) returns-2 returns-3)

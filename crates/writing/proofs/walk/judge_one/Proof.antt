@@ -14,25 +14,29 @@ add-next c = let small = wide-at-most _ _ (c .wide-of .ensures) in omega arith
 
 add-place : tie.Need-add-place
 add-place c =
-    let x = c .before .before .before .flaw-of .ensures in
-    let a = c .before .before .before .before .before .before .before .args in
-    omega (arith, wrong-near (now (a .pool)) (a .f) (now (c .before .before .before .before .rest-of .result)) _ _ (sym x ∙ c .before .why .given .1))
+    let so = c .before .before .before in
+    let ws = so .before .before .before in
+    let a = ws .before .before .before .args in
+    omega (arith, wrong-near (now (a .pool)) (a .f) (now (ws .rest-of .result)) _ _ (sym (so .flaw-of .ensures) ∙ c .before .why .given .1))
 
 returns : tie.Need-returns
 returns c =
-    let so = c .before .before .before .before in
-    let a = so .before .before .before .before .args in
-    one-right (now (a .pool)) (now (a .row)) (a .f) (a .at) (a .made) _ (so .before .rest-of .ensures) (sym (so .flaw-of .ensures) ∙ c .before .before .enum-told .given .1)
-    _ _ (c .before .wide-of .ensures) (c .size-of .ensures .0)
+    let so = c .before .before in
+    let sized = so .before in
+    let ws = sized .before .before in
+    let a = ws .before .before .before .args in
+    one-right (now (a .pool)) (now (a .row)) (a .f) (a .at) (a .made) _ (ws .rest-of .ensures) (sym (so .flaw-of .ensures) ∙ c .enum-told .given .1)
+    _ _ (sized .before .wide-of .ensures) (sized .size-of .ensures .0)
 
 returns-2 : tie.Need-returns-2
 returns-2 c =
     let so = c .before .before .before in
-    let a = so .before .before .before .before .args in
-    one-wrong (now (a .pool)) (now (a .row)) (a .f) (a .at) (a .made) _ (so .before .rest-of .ensures) _ _ (sym (so .flaw-of .ensures) ∙ c .before .why .given .1)
+    let ws = so .before .before .before in
+    let a = ws .before .before .before .args in
+    one-wrong (now (a .pool)) (now (a .row)) (a .f) (a .at) (a .made) _ (ws .rest-of .ensures) _ _ (sym (so .flaw-of .ensures) ∙ c .before .why .given .1)
 
 pub judge-one-spec : {M : Type 1} → statement M
 judge-one-spec =
     tie.close
-    (tie.spec (λ c κs. search needs) (λ c κs. search needs) (search needs) (λ c κs. search needs) add-next
-    (λ c κs. search needs) (search needs) (search needs) add-place returns returns-2)
+    (tie.spec (λ c κs. search needs) (λ c κs. search needs) add-next (λ c κs. search needs) (search needs) (λ c κs. search needs)
+    (search needs) (search needs) add-place returns returns-2)
