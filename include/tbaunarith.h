@@ -29,7 +29,7 @@ enum {
     TB_COUNT = 10,  /* entry count is at its largest: 0 */
     TB_CUT = 11,    /* input ends first: input length */
     TB_CODE = 12,   /* a byte that cannot stand there: its offset */
-    TB_NUMBER = 13, /* no number of 32 bits in the shortest form: its offset */
+    TB_NUMBER = 13, /* no number of 32 bits in at most five bytes: its offset */
     TB_NEWER = 14,  /* a form above the grade: its offset */
     TB_SHEET = 15   /* wrong version, no row, broken framing: 0 */
 };

@@ -3,8 +3,9 @@
 The first half is a model of document 01's reader. It follows document 01 and, where that is silent, the reading decisions of
 docs/DECISIONS.md (a V of one byte, fixed bytes, the kinds of import options), so that agreement says nothing of those decisions. It
 was written from these, without the reader's definitions and code but for the table of lead bytes and their grades in crate types, the
-calls of crates types and imports, and the enums of crate fields. It is tried on document 01's bench table before anything else, and
-on each case: an item that is read and written again, by the model of the writer (rows.py), gives the bytes taken.
+calls of crates types and imports, and the enums of crate fields. Numbers may be padded, as wish 4 says. The model is tried on document
+01's bench table before anything else, and on each case: an item that is read and written again, by the model of the writer (rows.py),
+gives the same item in no more bytes than were taken, and exactly these bytes where no number was padded.
 The second half makes the inputs; the model answers each. Items are written by the model of the writer.
 
 An input above 1,073,741,824 bytes, which is LIMIT, cannot be stored. Of document 01's numbers a reading can get 0, 1, 6, 8 and 11 to
@@ -21,11 +22,17 @@ from rows import *
 INPUT_LIMIT = 1073741824
 
 
+class Start(int):
+    """The word of a name's start."""
+
+
 class Reader:
     """Reads an input from its front. Each step answers with its words; the first fault that is met is the leftmost."""
 
     def __init__(self, data, grade):
         self.data, self.grade, self.at = data, grade, 0
+        # Where each number stands, from and to; and whether one has more bytes than it needs.
+        self.numbers, self.padded = [], False
 
     def byte(self):
         """The next byte."""
@@ -54,13 +61,18 @@ class Reader:
                 raise Refused(NUMBER, start)
         return self.data[start:self.at]
 
+    def noted(self, start, number, shortest):
+        """The number that ends here, and has this shortest form."""
+        self.numbers.append((start, self.at))
+        self.padded |= self.at - start > len(shortest)
+        return number
+
     def unsigned(self):
         """A count, a length or an index."""
-        start, taken = self.at, self.carried()
-        number = digits(taken)
-        if number > MOST or len(taken) > 1 and taken[-1] == 0:
+        start, number = self.at, digits(self.carried())
+        if number > MOST:
             raise Refused(NUMBER, start)
-        return number
+        return self.noted(start, number, unsigned(number))
 
     def index(self):
         return [self.unsigned()]
@@ -74,17 +86,14 @@ class Reader:
     def value(self):
         """V: below 80 a byte for itself; from there on a signed number that must not be below 0."""
         start, first = self.at, self.byte()
-        if first < 0x40:
-            return [1, first]
         self.at = start
-        if first < 0x80:
+        if 0x40 <= first < 0x80:
             return [0] + self.primitive()
         taken = self.carried()
         number, below_zero = digits(taken), taken[-1] >= 0x40
-        longer_than_needed = taken[-1] == 0 and taken[-2] & 0x40 == 0
-        if below_zero or longer_than_needed or number > MOST:
+        if below_zero or number > MOST:
             raise Refused(NUMBER, start)
-        return [1, number]
+        return [1, self.noted(start, number, signed(number))]
 
     def optional(self):
         """O."""
@@ -106,7 +115,7 @@ class Reader:
             raise Refused(CUT, len(self.data))
         self.at += length
         judge_text(self.data[start:self.at], start)
-        return [start, length]
+        return [Start(start), length]
 
     def many(self, *fields):
         """A count, and so many times the fields."""
@@ -195,18 +204,36 @@ TYPE_LEADS = {
 }
 
 
+def read(sort, data, grade):
+    """A reader that has read an item, and the item's words."""
+    reader = Reader(data, grade)
+    return reader, reader.type() if sort == TYPES else reader.import_()
+
+
 def answer(sort, data, grade, room):
     """Number, value, also and words of a reading with room for so many words."""
     if len(data) > INPUT_LIMIT or grade not in (1, 2, 3):
         return LIMIT, 0, 0, []
-    reader = Reader(data, grade)
     try:
-        words = reader.type() if sort == TYPES else reader.import_()
+        reader, words = read(sort, data, grade)
     except Refused as refusal:
         return refusal.number, refusal.value, refusal.also, []
     if len(words) > min(room, ROW_LIMIT):
         return ROOM, len(words), 0, []
     return OK, reader.at, len(words), words
+
+
+def content(words, data):
+    """What makes an item that was read the same as another: its words, with the bytes of a name in the place of its start."""
+    return [data[word:word + words[k + 1]] if isinstance(word, Start) else word for k, word in enumerate(words)]
+
+
+def try_again(sort, data, words):
+    """An item that was read from all of these bytes is written again as the same item in fewer; in these where no number is padded."""
+    again = written(words, data)
+    number, taken, _, same = answer(sort, again, 3, ROW_LIMIT)
+    assert (number, taken, content(same, again)) == (OK, len(again), content(words, data)), data.hex()
+    assert len(again) < len(data) if read(sort, data, 3)[0].padded else again == data, data.hex()
 
 
 def try_reader():
@@ -217,8 +244,9 @@ def try_reader():
         assert (number, taken, also, words[0]) == (OK, len(data), len(row), row[0]), label
         assert written(words, data) == data, label
     for sort, made, grade, told in ((TYPES, '72 01 01 78 64', 1, (NEWER, 4)), (TYPES, '63 73 79', 2, (NEWER, 0)),
-                                    (TYPES, '69 80 00', 3, (NUMBER, 1)), (IMPORTS, '01 00 01 00', 3, (CODE, 0))):
+                                    (IMPORTS, '01 00 01 00', 3, (CODE, 0))):
         assert answer(sort, bytes.fromhex(made), grade, 40)[:2] == told, made
+    assert answer(TYPES, bytes.fromhex('69 80 00'), 3, 2) == (OK, 3, 2, [11, 0])
 
 
 def sort_of(row):
@@ -241,10 +269,10 @@ seen = set()
 
 
 def put(label, sort, data, grade, room):
-    """One case, answered by the model. What is read and not too long for a pool gives its bytes when it is written again."""
+    """One case, answered by the model. What is read and not too long for a pool is written again."""
     number, value, also, words = answer(sort, data, grade, room)
     if number == OK and value <= POOL_LIMIT:
-        assert written(words, data[:value]) == data[:value]
+        try_again(sort, data[:value], words)
     seen.add((sort, data, grade))
     cases.append(Case(label, sort, data, grade, 0, 4 * room, number, value, also, struct.pack('>%dI' % len(words), *words), 0))
 
@@ -350,7 +378,7 @@ def bench_readings():
             put('bench: ' + label, sort_of(row), bytes.fromhex(made), grade, len(row))
     for sort, made in ((TYPES, '69 80 00'), (IMPORTS, '01 01 66 01 00')):
         for grade in GRADES:
-            put_hex('bench: refused', sort, made, grade)
+            put_hex('bench: reading', sort, made, grade)
 
 
 def limit_readings():
@@ -405,7 +433,7 @@ VALUE_PLACES = [(TYPES, '70', ''), (TYPES, '6b', ''), (TYPES, '63', '7f'), (TYPE
                 (TYPES, '72 01 00', ''), (TYPES, '71 01 00 01', '00'), (TYPES, '6f 02 00', ''), (TYPES, '6a 01', '00'),
                 (TYPES, '6a 00 01', ''), (TYPES, '65 01', ''), (TYPES, '66 01', ''), (TYPES, '40 01 00', '01 00'),
                 (TYPES, '43 00 00', ''), (IMPORTS, '00 00 02', ''), (IMPORTS, '02 00 01 01 00 02', '')]
-# Numbers at the ends of their lengths, not shortest, past 32 bits, carrying on too long, or cut where nothing follows.
+# Numbers at the ends of their lengths, padded, past 32 bits, carrying on too long, or cut where nothing follows.
 NUMBERS = ['00', '7f', '80 01', 'ff 7f', '80 80 01', 'ff ff ff ff 0f', '80 80 80 80 08', '80 80 80 80 01', '80 00', 'ff 00', '80 80 00',
            'ff ff 00', '80 80 80 00', '80 80 80 80 00', 'ff ff ff ff 10', '80 80 80 80 10', 'ff ff ff ff 7f', '80 80 80 80 40',
            '80 80 80 80 80', 'ff ff ff ff ff', '80 80 80 80 80 00', 'ff ff ff ff 8f 00', '80', 'ff ff', '80 80 80', 'ff ff ff ff']
@@ -425,6 +453,62 @@ def number_readings():
                 for behind in sorted({'', after, '00 00 00'}):
                     put_hex('number ' + number, sort, before + number + behind)
                 put_hex('number ' + number, sort, before + number + after, dice.pick([1, 2]))
+
+
+def pad(number, size):
+    """A number's bytes, with zeros behind its digits up to so many bytes."""
+    more = size - len(number)
+    return number[:-1] + bytes([number[-1] | 0x80]) + b'\x80' * (more - 1) + b'\0' if more > 0 else number
+
+
+def with_numbers(sort, data, changed):
+    """An item of which each number's bytes are changed; changed is given the number's place among them, and its bytes."""
+    parts, at = [], 0
+    for k, (start, end) in enumerate(read(sort, data, 3)[0].numbers):
+        parts += [data[at:start], changed(k, data[start:end])]
+        at = end
+    return b''.join(parts) + data[at:]
+
+
+def padded_numbers():
+    """Every number of the bounds in each length that it can have, at every place for a number, and for a V."""
+    for places, form in ((NUMBER_PLACES, unsigned), (VALUE_PLACES, signed)):
+        for sort, before, after in places:
+            for number in [1, 2, 3] + BOUNDS:
+                for size in range(len(form(number)) + 1, 6):
+                    put_hex('%d in %d bytes' % (number, size), sort, before + pad(form(number), size).hex() + after, 1 + dice.below(3))
+
+
+def padded_readings():
+    """Items with every number in five bytes, whole and cut, or padded by the dice; and with one number of them spoilt."""
+    for row in items():
+        sort, data = sort_of(row), written(row, ITEM_POOL)
+        in_five = with_numbers(sort, data, lambda k, number: pad(number, 5))
+        if in_five == data:
+            continue
+        put_roomy('in five bytes', sort, in_five + dice.pick([b'', b'\0', b'\x80\x80']), 3)
+        put_roomy('in five bytes', sort, in_five, 1 + dice.below(2))
+        by_dice = with_numbers(sort, data, lambda k, number: pad(number, dice.below(6)))
+        put_roomy('padded', sort, by_dice + dice.pick([b'', b'\0', data]), 3)
+        if dice.below(6) == 0:
+            for length in range(len(in_five)):
+                put_roomy('in five bytes, cut to %d' % length, sort, in_five[:length], 3)
+        if dice.below(3) == 0:
+            spoilt_numbers(sort, by_dice)
+
+
+# What becomes of a number's bytes: too many, five that carry on, each bit of the fifth past the 32, the sign's bit, or below 0.
+SPOILT = [lambda number: pad(number, 6), lambda number: pad(number, 8), lambda number: pad(number, 6)[:-1],
+          lambda number: pad(number, 5)[:4] + b'\x10', lambda number: pad(number, 5)[:4] + b'\x20',
+          lambda number: pad(number, 5)[:4] + b'\x40', lambda number: number[:-1] + bytes([number[-1] | 0x40]),
+          lambda number: (pad(number, 6)[:len(number)] + b'\xff' * 4)[:4] + b'\x7f', lambda number: pad(number, 6)[:len(number)] + b'\x7f']
+
+
+def spoilt_numbers(sort, data):
+    """An item with one of its numbers spoilt in each way."""
+    one = dice.below(len(read(sort, data, 3)[0].numbers))
+    for spoil in SPOILT:
+        put_roomy('a spoilt number', sort, with_numbers(sort, data, lambda k, number: spoil(number) if k == one else number), 3)
 
 
 def name_bytes(before, text, after):
@@ -497,13 +581,13 @@ def sweep_readings():
 
 def fault_readings():
     """Two faults, of which the left one is told, and ROOM, which is told after both."""
-    entries = ['01 61 7f', '01 ff 7f', '01 61 62', '01 61 80 00', '01 61 64', '81 00 7f', '05 61 7f']
+    entries = ['01 61 7f', '01 ff 7f', '01 61 62', '81 00 61 80 00', '01 61 80 40', '01 61 64', '80 80 80 80 10 7f', '05 61 7f']
     for one, two in itertools.product(entries, repeat=2):
         for lead, result in (('72', ''), ('40', '02 7f'), ('43', '01 01'), ('40', '00 64')):
             for grade in (1, 3):
                 put('two faults', TYPES, bytes.fromhex(lead + '02' + one + two + result), grade, dice.pick([0, 40]))
-    names = ['00 00', '02 00 01 00 00', '02 01 ff 01 00 00', '02 00 04 00 00', '02 00 02 01 00 00 00', '01 00', '00 01 ff', '00 81 00']
-    references = ['01 00', '06 00', '00 10 00', '02 64', '03 02', '04 80 00', '05', '01 80 80']
+    names = ['00 00', '02 00 01 00 00', '02 01 ff 01 00 00', '02 00 04 00 00', '02 00 02 01 00 00 00', '01 00', '00 01 ff', '00 80 00', '00 ff ff ff ff 1f']
+    references = ['01 00', '06 00', '00 10 00', '02 64', '02 80 40', '03 02', '04 80 00', '04 80 80 80 80 10', '05', '01 80 80']
     for head, tail in itertools.product(names, references):
         for grade in (1, 3):
             put('two faults', IMPORTS, bytes.fromhex(head + tail), grade, dice.pick([0, 40]))
@@ -546,4 +630,6 @@ def readings():
     wide_readings()
     long_readings()
     spoilt_readings()
+    padded_numbers()
+    padded_readings()
     return cases

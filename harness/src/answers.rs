@@ -2,8 +2,8 @@
 //!
 //! A list is laid out as tools/cases.py says; `tools/vectors FILE` puts it behind the others.
 
-use crate::damage::{needed_rooms, reading_of_damaged_names, sheet_of_damaged_names, some_reading, some_room, some_sheet};
-use crate::damage::{ReadingCase, Scope};
+use crate::damage::{needed_rooms, sheet_of_damaged_names, some_room, some_sheet, ReadingCase, Scope};
+use crate::damage::{reading_of_damaged_names, reading_of_padded_numbers, some_reading};
 use crate::encode::crate_section;
 use crate::input::{family_of, Input};
 use crate::model;
@@ -159,6 +159,11 @@ pub fn readings(rng: &mut Random, tries: usize, most: usize) -> Vec<Case> {
 /// The model's readings of encodings with damaged names, at most so many of each number for types and for imports.
 pub fn readings_of_damaged_names(rng: &mut Random, tries: usize, most: usize) -> Vec<Case> {
     readings_by(rng, reading_of_damaged_names, tries, most)
+}
+
+/// The model's readings of encodings with padded numbers, at most so many of each number for types and for imports.
+pub fn readings_of_padded_numbers(rng: &mut Random, tries: usize, most: usize) -> Vec<Case> {
+    readings_by(rng, reading_of_padded_numbers, tries, most)
 }
 
 /// The model's readings that are made so, at most so many of each number for types and for imports.

@@ -2,6 +2,7 @@
 
 use crate::input::{family_of, frame};
 use crate::model;
+use crate::padded;
 use crate::random::{row_of_damaged_names, valid_row, Random, KINDS};
 use crate::report::{Difference, Table};
 use crate::tbaunarith::{self, Item, Refusal, Refused};
@@ -488,7 +489,7 @@ pub(crate) struct ReadingCase {
 }
 
 /// Reads with the model and the library: the model's answer, and the difference if there is one.
-fn read_both(import: bool, input: &[u8], grade: u32, room: usize) -> (Result<Item, Refused>, Option<String>) {
+pub(crate) fn read_both(import: bool, input: &[u8], grade: u32, room: usize) -> (Result<Item, Refused>, Option<String>) {
     let mut model_row = lent_words(room);
     let mut library_row = model_row.clone();
     let (model, library) = if import {
@@ -619,6 +620,18 @@ pub(crate) fn reading_of_damaged_names(rng: &mut Random, words: &mut [u32]) -> R
     reading_of(rng, import, input, words)
 }
 
+/// A reading of an encoding whose numbers are padded; in every second one of them is spoilt, or any byte.
+pub(crate) fn reading_of_padded_numbers(rng: &mut Random, words: &mut [u32]) -> ReadingCase {
+    let (import, item) = some_encoding(rng);
+    let mut input = padded::at_random(rng, import, &item);
+    match rng.below(4) {
+        0 => input = padded::spoilt(rng, import, &input),
+        1 => damage_bytes(rng, &mut input),
+        _ => {}
+    }
+    reading_of(rng, import, input, words)
+}
+
 /// A reading of an encoding, mostly damaged.
 pub(crate) fn some_reading(rng: &mut Random, words: &mut [u32]) -> ReadingCase {
     let (import, mut input) = match rng.below(16) {
@@ -653,8 +666,11 @@ pub fn readings(rng: &mut Random, count: u64) -> Result<Tally, String> {
     let mut tally = Tally::default();
     let mut words = vec![0; 16_384];
     for _ in 0..count {
-        let case =
-            if rng.one_in(8) { reading_of_damaged_names(rng, &mut words) } else { some_reading(rng, &mut words) };
+        let case = match rng.below(8) {
+            0 => reading_of_damaged_names(rng, &mut words),
+            1 => reading_of_padded_numbers(rng, &mut words),
+            _ => some_reading(rng, &mut words),
+        };
         let (answer, differs) = case.run();
         if differs.is_some() {
             return Err(case.smallest());

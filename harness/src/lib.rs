@@ -12,6 +12,7 @@ pub mod lean;
 pub mod loads;
 pub mod model;
 pub mod names;
+pub mod padded;
 pub mod random;
 pub mod reading;
 pub mod report;

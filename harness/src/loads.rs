@@ -3,6 +3,8 @@
 use crate::growing::Growing;
 use crate::input::{family_of, Input};
 use crate::lean::{PLAIN_IMPORTS, PLAIN_INSTANCES};
+use crate::model;
+use crate::padded;
 use crate::random::{row_of, Material, Random, KINDS, POOL_BYTES};
 use crate::sample::{Sample, JUDGE, PUMP, WATCH};
 use crate::tbaunarith::{IMPORTS, INSTANCES, TYPES};
@@ -44,7 +46,7 @@ pub const GROWING: [Plan; 4] = [
 
 /// Loads whose size is the number of rows, all of them made anew. Scripts are mixed within a name. wasmparser 0.239 reads no
 /// import with options and no async function.
-pub const VARIOUS: [Plan; 24] = [
+pub const VARIOUS: [Plan; 25] = [
     by_rows("canonicals", WRITE, |rows| in_a_section(rows, CANONICAL, &[LATIN], any)),
     by_rows("lift-lower", WRITE, |rows| in_a_section(rows, 0x100..=0x101, &[LATIN], any)),
     by_rows("import-options", WRITE, |rows| in_a_section(rows, IMPORT, &[LATIN], has_options)),
@@ -52,6 +54,7 @@ pub const VARIOUS: [Plan; 24] = [
     by_rows("instances", WRITE, plain_instances),
     by_rows("items-options", WRITE, |rows| in_a_section(rows, 21..=21, &[LATIN], any)),
     by_rows("index-lists", WRITE_READ, |rows| in_a_section(rows, 3..=3, &[LATIN], |row| row[1] == 1)),
+    by_rows("padded-indices", READ, padded_indices),
     by_rows("results", WRITE_READ, |rows| in_a_section(rows, 10..=10, &[LATIN], any)),
     by_rows("variants", WRITE_READ, |rows| in_a_section(rows, 2..=2, &[LATIN], any)),
     by_rows("enums", WRITE_READ, |rows| in_a_section(rows, 8..=8, &[LATIN], any)),
@@ -81,6 +84,7 @@ pub const REFUSED: [Plan; 3] = [
 
 /// What can be done with a load.
 const WRITE: &[&str] = &["write"];
+const READ: &[&str] = &["read"];
 const WRITE_READ: &[&str] = &["write", "read"];
 const SHEET: &[&str] = &["sheet"];
 const TRY: &[&str] = &["try"];
@@ -211,6 +215,16 @@ fn in_a_section(rows: usize, kinds: RangeInclusive<u32>, scripts: Scripts, fits:
     Load::of_rows(Usual::new(scripts, 0..8).input(rows, kinds, fits), 1)
 }
 
+/// List, option, own and borrow of an index, each index in five bytes, as a linker writes them that is to patch them. The rows
+/// are there for their number and family only: they would be written in fewer bytes.
+fn padded_indices(rows: usize) -> Load {
+    let of_index = |row: &[u32]| matches!(row, [3 | 9, 1, _] | [11 | 12, _]);
+    let load = in_a_section(rows, 3..=12, &[LATIN], of_index);
+    let shortest = |row: &Vec<u32>| model::write_row(TYPES, row, &[]).expect("rows of a load are valid");
+    let items: Vec<Vec<u8>> = load.input.rows.iter().map(|row| padded::in_five_bytes(false, &shortest(row))).collect();
+    Load { section: padded::section_of(TYPES, &items, || 1), ..load }
+}
+
 /// Instances none of which has options.
 fn plain_instances(rows: usize) -> Load {
     let mut usual = Usual { options: false, ..Usual::new(&[LATIN], 0..8) };
@@ -326,6 +340,7 @@ impl Material for Usual {
 #[cfg(test)]
 mod tests {
     use super::*;
+    use crate::frames;
     use crate::tbaunarith::{Refusal, Refused};
 
     #[test]
@@ -338,6 +353,13 @@ mod tests {
         let tag = Refused { why: Refusal::Tag, value: field + 2, also: 0 };
         let text = Refused { why: Refusal::Text, value: field, also: 7 };
         assert_eq!(answers, [Ok(()), Err(tag), Err(text)]);
+    }
+
+    #[test]
+    fn indices_are_padded() {
+        let Load { input, section, .. } = padded_indices(300);
+        assert_eq!(frames::body(&section).map(<[u8]>::len), Some(300 * 6));
+        assert!([3, 9, 11, 12].iter().all(|kind| input.rows.iter().any(|row| row[0] == *kind)));
     }
 
     #[test]

@@ -1,7 +1,7 @@
 //! Document 01 as a model in plain Rust: what each call answers and changes, made to be laid beside the paper.
 
 use crate::tbaunarith::{Item, Refusal, Refused};
-use std::ops::RangeInclusive;
+use std::ops::{Range, RangeInclusive};
 
 // "Numbers on the wall": a row's words, a pool's bytes, a reader's input; and "The sheet": a sheet's bytes.
 const ROW_WORDS: usize = 16_384;
@@ -810,12 +810,24 @@ pub fn read_import(input: &[u8], grade: u32, row: &mut [u32]) -> Result<Item, Re
     reader.into_row(row)
 }
 
-/// An item being read: the offset of the next byte, the grade, and the row's words so far.
+/// Where the numbers of the item at the front of the input stand: counts, lengths and indices, in their order.
+pub fn numbers_of(import: bool, input: &[u8]) -> Result<Vec<Range<usize>>, Refused> {
+    let mut reader = Reader::new(input, 3)?;
+    if import {
+        reader.import()?;
+    } else {
+        reader.any_type()?;
+    }
+    Ok(reader.numbers)
+}
+
+/// An item being read: the offset of the next byte, the grade, the row's words so far, and where the numbers stood.
 struct Reader<'a> {
     input: &'a [u8],
     place: usize,
     grade: u32,
     row: Vec<u32>,
+    numbers: Vec<Range<usize>>,
 }
 
 impl<'a> Reader<'a> {
@@ -824,7 +836,7 @@ impl<'a> Reader<'a> {
         if input.len() > INPUT_BYTES || !(1..=3).contains(&grade) {
             return refused(Refusal::Limit, 0);
         }
-        Ok(Reader { input, place: 0, grade, row: Vec::new() })
+        Ok(Reader { input, place: 0, grade, row: Vec::new(), numbers: Vec::new() })
     }
 
     /// The whole item's words at the front of the row lent, or ROOM with their number.
@@ -886,28 +898,28 @@ impl<'a> Reader<'a> {
     }
 
     /// The bytes of a number up to the first that doesn't carry on: CUT if the input ends before it, NUMBER if five
-    /// carry on. Returns the number of bytes, the last byte, and the seven bits of each byte together.
-    fn number_bytes(&mut self) -> Result<(usize, u8, u64), Refused> {
+    /// carry on. Returns the last byte, and the seven bits of each byte together.
+    fn number_bytes(&mut self) -> Result<(u8, u64), Refused> {
         let start = self.place;
         let mut bits = 0;
         for place in 0..5 {
             let byte = self.byte()?;
             bits |= u64::from(byte & 0x7f) << (7 * place);
             if byte < 0x80 {
-                return Ok((place + 1, byte, bits));
+                return Ok((byte, bits));
             }
         }
         refused(Refusal::Number, start)
     }
 
-    /// An unsigned number: NUMBER at its first byte if not shortest or past 32 bits.
+    /// An unsigned number, which may be padded (wish 4): NUMBER at its first byte if past 32 bits.
     fn number(&mut self) -> Result<u32, Refused> {
         let start = self.place;
-        let (size, last, bits) = self.number_bytes()?;
-        let shortest = size == 1 || last != 0x00;
-        if !shortest || bits > MOST {
+        let (_, bits) = self.number_bytes()?;
+        if bits > MOST {
             return refused(Refusal::Number, start);
         }
+        self.numbers.push(start..self.place);
         Ok(bits as u32)
     }
 
@@ -918,17 +930,16 @@ impl<'a> Reader<'a> {
         Ok(())
     }
 
-    /// The index of a many-byte V: NUMBER at its first byte if not shortest, past 32 bits, or below 0.
+    /// The index of a many-byte V, which may be padded (wish 4): NUMBER at its first byte if past 32 bits or below 0. Its sign
+    /// is bit 6 of the last byte; in five bytes that bit and the two before it are those past 32 bits.
     fn signed_index(&mut self) -> Result<u32, Refused> {
         let start = self.place;
-        let (_, last, bits) = self.number_bytes()?;
+        let (last, bits) = self.number_bytes()?;
         let below_zero = last & 0x40 != 0;
-        // A last byte 00 is needed only where the bit before it would be read as the sign.
-        let before_last = self.input.get(self.place - 2).copied().unwrap_or_default();
-        let shortest = last != 0x00 || before_last & 0x40 != 0;
-        if below_zero || !shortest || bits > MOST {
+        if below_zero || bits > MOST {
             return refused(Refusal::Number, start);
         }
+        self.numbers.push(start..self.place);
         Ok(bits as u32)
     }
 
@@ -964,6 +975,7 @@ impl<'a> Reader<'a> {
             return Ok(());
         }
         if byte <= 0x3f {
+            self.numbers.push(self.place - 1..self.place);
             self.word(1);
             self.word(u32::from(byte));
             return Ok(());
@@ -1185,6 +1197,7 @@ impl<'a> Reader<'a> {
 #[cfg(test)]
 mod tests {
     use super::*;
+    use crate::padded::in_five_bytes;
 
     /// "Bytes laid on the bench", the items that are written: family, row, pool, bytes.
     const BENCH: &[(u64, &[u32], &[u8], &[u8])] = &[
@@ -1352,6 +1365,8 @@ mod tests {
             let mut longer = bytes.to_vec();
             longer.push(0x80);
             assert_eq!(read_and_write(*family, &longer), Ok(bytes.to_vec()));
+            let padded = in_five_bytes(*family == 10, bytes);
+            assert_eq!(read_and_write(*family, &padded), Ok(bytes.to_vec()));
         }
     }
 
@@ -1362,11 +1377,12 @@ mod tests {
         assert_eq!(read_type(&[0x72, 0x01, 0x01, 0x78, 0x64], 1, &mut row), refused(Refusal::Newer, 4));
         // map string to u32, read at grade 2
         assert_eq!(read_type(&[0x63, 0x73, 0x79], 2, &mut row), refused(Refusal::Newer, 0));
-        // own 0 as 69 80 00
-        assert_eq!(read_type(&[0x69, 0x80, 0x00], 3, &mut row), refused(Refusal::Number, 1));
         // import lead 01
         assert_eq!(read_import(&[0x01, 0x01, 0x66, 0x01, 0x00], 3, &mut row), refused(Refusal::Code, 0));
         assert_eq!(row, [0; 64]);
+        // own 0 as 69 80 00, which wish 4 allows
+        assert_eq!(read_type(&[0x69, 0x80, 0x00], 3, &mut row), Ok(Item { words: 2, taken: 3 }));
+        assert_eq!(row[..2], [11, 0]);
     }
 
     #[test]
@@ -1388,7 +1404,9 @@ mod tests {
         assert_eq!(read_type(&[0x69, 0xff, 0xff, 0xff, 0xff, 0x80], 1, &mut row), refused(Refusal::Number, 1));
         assert_eq!(read_type(&[0x69, 0xff, 0xff, 0xff, 0xff, 0x1f], 1, &mut row), refused(Refusal::Number, 1));
         assert_eq!(read_type(&[0x70, 0xff, 0x7f], 1, &mut row), refused(Refusal::Number, 1));
-        assert_eq!(read_type(&[0x70, 0xbf, 0x00], 1, &mut row), refused(Refusal::Number, 1));
+        assert_eq!(read_type(&[0x70, 0xff, 0xff, 0xff, 0xff, 0x1f], 1, &mut row), refused(Refusal::Number, 1));
+        assert_eq!(read_type(&[0x70, 0xff, 0xff, 0xff, 0xff, 0x7f], 1, &mut row), refused(Refusal::Number, 1));
+        assert_eq!(read_type(&[0x70, 0x80, 0x80, 0x80, 0x80, 0x80, 0x00], 1, &mut row), refused(Refusal::Number, 1));
         assert_eq!(read_type(&[0x6d, 0x01, 0x02, 0xff], 1, &mut row), refused(Refusal::Cut, 4));
         assert_eq!(read_type(&[0x6d, 0x01, 0x01, 0xff], 1, &mut row), refused(Refusal::Text, 3));
     }

@@ -54,7 +54,7 @@ struct Counts {
 const MAP: u32 = 4;
 
 /// Why wasmparser 0.239 does not read a valid row's item, if so: it knows an older format, and has limits of its own.
-fn unread(row: &[u32]) -> Option<&'static str> {
+pub(crate) fn unread(row: &[u32]) -> Option<&'static str> {
     match row[0] {
         MAP => Some("map (63)"),
         7 if row[1] > 1000 => Some("over 1,000 flags"),
@@ -108,10 +108,10 @@ fn refused_alone(form: &str, input: &Input) -> Result<(), Difference> {
 }
 
 /// An item: where its bytes start in the section's content, and its row, whose names count from there.
-type Found = (usize, Vec<u32>);
+pub(crate) type Found = (usize, Vec<u32>);
 
 /// The items of a section, or why there are none.
-type Answer = Result<Vec<Found>, String>;
+pub(crate) type Answer = Result<Vec<Found>, String>;
 
 /// Both sides find the same items.
 fn same_items(input: &Input) -> Result<(), Difference> {
@@ -136,7 +136,7 @@ fn written(input: &Input) -> Result<Vec<u8>, Refused> {
 const BROKEN: &str = "the section's framing is broken";
 
 /// The items that the library reads, one after another to the end of the section; of instances those that it wrote.
-fn by_library(input: &Input, section: &[u8]) -> Answer {
+pub(crate) fn by_library(input: &Input, section: &[u8]) -> Answer {
     let read = match input.family {
         TYPES => read_type,
         IMPORTS => read_import,
@@ -168,7 +168,7 @@ fn with_names(row: &[u32], bytes: &[u8]) -> Vec<u32> {
 }
 
 /// The items that wasmparser reads.
-fn by_wasmparser(family: u64, section: &[u8]) -> Answer {
+pub(crate) fn by_wasmparser(family: u64, section: &[u8]) -> Answer {
     let content = frames::content(section).ok_or(BROKEN)?;
     let reader = BinaryReader::new(content, 0);
     let found = match family {

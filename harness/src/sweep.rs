@@ -1,4 +1,5 @@
-//! Runs of indices: `list of i`, `own i` and an import of function i, written, compared with the crate and read back.
+//! Runs of indices: `list of i`, `own i` and an import of function i, written, compared with the crate and read back; and read
+//! with the index in five bytes.
 
 use crate::drive::body_size;
 use crate::report::{hex, words, Difference, Table};
@@ -9,12 +10,14 @@ use wasm_encoder::{ComponentImportSection, ComponentSection, ComponentTypeRef, C
 /// How many indices go into one section.
 pub const RUN: u32 = 4096;
 
-/// A row with one index: where the index stands, how the item is read, and how the crate writes a run of them.
+/// A row with one index: where the index stands, the bytes before it, how the item is read, and how the crate writes a run of
+/// them.
 struct Form {
     name: &'static str,
     family: u64,
     row: &'static [u32],
     place: usize,
+    front: &'static [u8],
     read: fn(&[u8], u32, &mut [u32]) -> Result<Item, Refused>,
     write: fn(RangeInclusive<u32>, &mut Vec<u8>),
 }
@@ -24,13 +27,14 @@ struct Form {
 const POOL: &[u8] = &[0, 1, b'f'];
 
 const FORMS: [Form; 3] = [
-    Form { name: "list of", family: TYPES, row: &[3, 1, 0], place: 2, read: read_type, write: crate_lists },
-    Form { name: "own", family: TYPES, row: &[11, 0], place: 1, read: read_type, write: crate_owns },
+    Form { name: "list of", family: TYPES, row: &[3, 1, 0], place: 2, front: &[0x70], read: read_type, write: crate_lists },
+    Form { name: "own", family: TYPES, row: &[11, 0], place: 1, front: &[0x69], read: read_type, write: crate_owns },
     Form {
         name: "import of function",
         family: IMPORTS,
         row: &[17, 2, 1, 0, 0, 0, 0, 0, 0, 0, 0, 0, 1, 0, 0],
         place: 13,
+        front: &[0x00, 0x01, b'f', 0x01],
         read: read_import,
         write: crate_imports,
     },
@@ -61,12 +65,14 @@ pub struct Sweep {
     body: Vec<u8>,
     out: Vec<u8>,
     other: Vec<u8>,
+    padded: Vec<u8>,
 }
 
 impl Default for Sweep {
     /// An item has at most 9 bytes; the section's id, size and count have less than 16.
     fn default() -> Sweep {
-        Sweep { body: vec![0; 9 * RUN as usize], out: vec![0; 9 * RUN as usize + 16], other: Vec::new() }
+        let (body, out) = (vec![0; 9 * RUN as usize], vec![0; 9 * RUN as usize + 16]);
+        Sweep { body, out, other: Vec::new(), padded: Vec::new() }
     }
 }
 
@@ -104,7 +110,10 @@ impl Sweep {
             return Err(told("writing", hex(section), hex(&self.other)));
         }
         let front = self.other.len() - body_size(&self.other);
-        read_back(form, run.clone(), &section[front..]).map_err(|found| told("reading back", found, hex(section)))
+        read_back(form, run.clone(), &section[front..]).map_err(|found| told("reading back", found, hex(section)))?;
+        self.padded.clear();
+        run.clone().for_each(|index| form.add_padded(index, &mut self.padded));
+        read_back(form, run.clone(), &self.padded).map_err(|found| told("reading, padded", found, hex(&self.padded)))
     }
 
     /// The library's section of the run.
@@ -117,6 +126,15 @@ impl Sweep {
             section.row(row, POOL, &mut self.body)?;
         }
         section.finish(&self.body, &mut self.out)
+    }
+}
+
+impl Form {
+    /// Adds the item with the index in five bytes of seven bits, the lowest first.
+    fn add_padded(&self, index: u32, bytes: &mut Vec<u8>) {
+        let digit = |place: u32| (index >> (7 * place)) as u8 & 0x7f;
+        bytes.extend(self.front);
+        bytes.extend([0x80 | digit(0), 0x80 | digit(1), 0x80 | digit(2), 0x80 | digit(3), digit(4)]);
     }
 }
 
@@ -147,6 +165,7 @@ pub fn compare(table: &mut Table) -> Result<(), Difference> {
         sweep.run(first..=first + RUN - 1)?;
     }
     table.add("list of i, own i, import of function i: every i below 2^22", "crate", u64::from(3 * low));
+    table.add("  read with i in five bytes", "i", u64::from(3 * low));
     let mut around = 0;
     for power in 0..=32 {
         let place: u64 = 1 << power;
@@ -155,5 +174,6 @@ pub fn compare(table: &mut Table) -> Result<(), Difference> {
         around += 3 * u64::from(last - first + 1);
     }
     table.add("the same, 64 to each side of each power of two", "crate", around);
+    table.add("  read with i in five bytes", "i", around);
     Ok(())
 }

@@ -6,7 +6,7 @@ use mathlib.Core.Bool.{Bool, true, false, cond}
 use mathlib.Core.List.{List, [], _∷_, _++_}
 use borrow.Author.Tests.{ltb-true, ltb-false}
 use lib.Dec.{eqb, ltb}
-use lib.ListN.{length, take}
+use lib.ListN.{length, take, drop, take-append-drop}
 use Rattle.numbers.specs.Bytes.{Bytes}
 use Rattle.numbers.specs.Leb.{bytesOf}
 use Rattle.numbers.specs.Text.{text, rest, step}
@@ -31,8 +31,11 @@ use Rattle.fields.specs.View.{Name, view, said}
 use Rattle.fields.specs.Walk.{walk, outs}
 use Rattle.writing.specs.Write.{sized, measured, stored}
 use Rattle.round_trip.specs.Returned.{ReadsBack}
+use Rattle.round_trip.specs.Padded.{Padded}
+use Rattle.round_trip.proofs.ItemLaws as item
+use Rattle.round_trip.proofs.PaddedLaws.{padded-by, padded-again}
 use Rattle.items.specs.ReadType.{leadGrade, readType}
-use Rattle.claims.specs.Demand3.{typeMark, importMark, flagsRow, flagsPool, flagsBytes, otherWords, Demand3, Readable, types, imports, reads, SameBy, Same, firstAbove, Marking, ReadBack, Returned}
+use Rattle.claims.specs.Demand3.{typeMark, importMark, flagsRow, flagsPool, flagsBytes, otherWords, Demand3, Readable, types, imports, reads, SameBy, Same, firstAbove, Marking, ReadBack, Returned, WrittenAgain}
 use Rattle.types.specs.Table as typeTable
 use Rattle.types.specs.Write as typeWrite
 use Rattle.types.specs.Write.{measuredType, writeType}
@@ -40,7 +43,7 @@ use Rattle.claims.proofs.TypesBack.{type-back, type-only}
 use Rattle.items.specs.ReadImport.{readImport}
 use Rattle.imports.specs.Table as importTable
 use Rattle.imports.specs.Write as importWrite
-use Rattle.imports.specs.Write.{measuredImport}
+use Rattle.imports.specs.Write.{measuredImport, writeImport}
 use Rattle.claims.proofs.ImportsBack.{import-back, import-only}
 use Rattle.sections.specs.Section.{fresh, measuredFamily, familyBytes, writeFamily}
 use Rattle.sections.proofs.TurnLaws.{row-turns, accepted-size}
@@ -83,17 +86,23 @@ module _ (family : ℕ) (row pool input room : List ℕ) where
         },
   )
 
-read-back : (family : ℕ) → Readable family → (row pool : List ℕ) → Words row → Valid family row pool
+-- a row that has a size, by which it is written as its production
+sized-back : (family : ℕ) → Readable family → (row pool : List ℕ) → Words row
+    → measuredFamily family row pool ≡ Size (length (production family pool row)) → familyBytes family pool row ≡ production family pool row
     → (rest room : List ℕ) (g : ℕ) → 1 ≤ g → g ≤ 3 → length (production family pool row ++ rest) ≤ 2 ^ 30
     → ReadBack (firstAbove family g pool row) family pool row (production family pool row ++ rest) room
     (reads family g (production family pool row ++ rest) room)
 unfolding measuredFamily familyBytes
-read-back family types row pool fw v rest room g any top short =
-    of-kind 7 row pool _ room _ _
-    (type-back g row pool _ fw (valid-measured 7 types row pool v) rest _ room (ap (λ bs. bs ++ rest) (sym (valid-bytes 7 types row pool v))) any top short)
-read-back family imports row pool fw v rest room g any top short =
-    of-kind 10 row pool _ room _ _
-    (import-back g row pool _ fw (valid-measured 10 imports row pool v) rest _ room (ap (λ bs. bs ++ rest) (sym (valid-bytes 10 imports row pool v))) any top short)
+sized-back family types row pool fw m p rest room g any top short =
+    of-kind 7 row pool _ room _ _ (type-back g row pool _ fw m rest _ room (ap (λ bs. bs ++ rest) (sym p)) any top short)
+sized-back family imports row pool fw m p rest room g any top short =
+    of-kind 10 row pool _ room _ _ (import-back g row pool _ fw m rest _ room (ap (λ bs. bs ++ rest) (sym p)) any top short)
+
+read-back : (family : ℕ) → Readable family → (row pool : List ℕ) → Words row → Valid family row pool
+    → (rest room : List ℕ) (g : ℕ) → 1 ≤ g → g ≤ 3 → length (production family pool row ++ rest) ≤ 2 ^ 30
+    → ReadBack (firstAbove family g pool row) family pool row (production family pool row ++ rest) room
+    (reads family g (production family pool row ++ rest) room)
+read-back family f row pool fw v = sized-back family f row pool fw (valid-measured family f row pool v) (valid-bytes family f row pool v)
 
 -- ---- nothing else is returned
 
@@ -195,12 +204,79 @@ newer-at family imports row pool fw v g j any m =
 
 -- ---- written again
 
+-- what is said of the shape that was found is said of the family
+record Rewritten (family g : ℕ) (input taken row : List ℕ) : Type 0 where
+  small : Words row
+  clear : firstAbove family g taken row ≡ Clear
+  accepts : measuredFamily family row taken ≡ Size (length (familyBytes family taken row))
+  again : Padded taken (familyBytes family taken row)
+  writes : (out : List ℕ) (at : ℕ)
+      → writeFamily family row taken out at ≡ stored (measuredFamily family row taken) (familyBytes family taken row) out at
+  same : (other pool : List ℕ) (m : ℕ) → measuredFamily family other pool ≡ Size m → Same family pool other input row
+      → familyBytes family taken row ≡ familyBytes family pool other
+
+-- the same item is of the same kind
+by-kind : (find : ℕ → Found) (lead g : ℕ) (input taken row : List ℕ) → item.WrittenAgain (find (word row 0)) lead g input taken row
+    → (other pool : List ℕ) (m : ℕ) → measuredRow (find (word other 0)) other pool ≡ Size m → SameBy (find (word other 0)) pool other input row
+    → rowBytes (find (word row 0)) taken row ≡ rowBytes (find (word other 0)) pool other
+by-kind find lead g input taken row o other pool m a same = go (find (word other 0)) refl same
+  where
+    go : (f : Found) → find (word other 0) ≡ f → SameBy f pool other input row → rowBytes (find (word row 0)) taken row ≡ rowBytes (find (word other 0)) pool other
+    go (Is s) e same =
+        let kind : word row 0 ≡ word other 0 = same .kind in
+        o .same s (ap find kind ∙ e) pool other m (ap (λ k. measuredRow (find k) other pool) kind ∙ a) same
+        ∙ ap (λ k. rowBytes (find k) pool other) kind
+    go Not e same = absurd same
+
+rewritten : (family : ℕ) → Readable family → (input room after : List ℕ) (g words bytes : ℕ) → Bytes input → 1 ≤ g
+    → reads family g input room ≡ leftRow (Item words bytes) after → bytes ≤ 65536
+    → Rewritten family g input (take bytes input) (take words after)
+unfolding measuredFamily familyBytes writeFamily measuredType writeType measuredImport writeImport writeRow typeMark importMark
+rewritten family types input room after g words bytes fi any r few =
+    let o = type-only g input room after words bytes fi any r few in
+    record {
+      small = o .small;
+      clear = o .clear;
+      accepts = o .accepts;
+      again = o .again;
+      writes = λ out at. refl;
+      same = by-kind typeWrite.shapeOf _ g input (take bytes input) (take words after) o;
+    }
+rewritten family imports input room after g words bytes fi any r few =
+    let o = import-only g input room after words bytes fi any r few in
+    record {
+      small = o .small;
+      clear = o .clear;
+      accepts = o .accepts;
+      again = o .again;
+      writes = λ out at. refl;
+      same = by-kind importWrite.shapeOf _ g input (take bytes input) (take words after) o;
+    }
+
 written-again : (family : ℕ) → Readable family → (input room after : List ℕ) (g words bytes : ℕ) → Bytes input
-    → reads family g input room ≡ leftRow (Item words bytes) after → bytes ≤ 65536 → (out : List ℕ) (at : ℕ)
-    → writeFamily family (take words after) (take bytes input) out at ≡ stored (Size bytes) (take bytes input) out at
-unfolding writeFamily
-written-again family types input room after g words bytes fi r small out at = type-only g input room after words bytes fi r small out at
-written-again family imports input room after g words bytes fi r small out at = import-only g input room after words bytes fi r small out at
+    → reads family g input room ≡ leftRow (Item words bytes) after → bytes ≤ 65536 → WrittenAgain family g (take bytes input) (take words after)
+written-again family f input room after g words bytes fi r few =
+    let taken = take bytes input in
+    let row = take words after in
+    let l = reads-limits family f g input room after words bytes r in
+    let o = rewritten family f input room after g words bytes fi (l .0) r few in
+    let p : familyBytes family taken row ≡ production family taken row = family-production family row taken _ (o .accepts) in
+    let m : measuredFamily family row taken ≡ Size (length (production family taken row)) = o .accepts ∙ ap (λ bs. Size (length bs)) p in
+    record {
+      writes = λ out at. o .writes out at ∙ (λ i. stored (m i) (p i) out at);
+      padded = padded-by (sym p) (o .again) refl;
+      again = padded-again (padded-by (sym p) (o .again) refl);
+      unpadded = λ other pool fw v is.
+          let rest = drop bytes input in
+          let whole : production family pool other ++ rest ≡ input = ap (λ l. l ++ rest) (sym is) ∙ take-append-drop bytes input in
+          let read = subst (λ l. reads family g l room ≡ leftRow (Item words bytes) after) (sym whole) r in
+          let same = subst (λ l. Same family pool other l row) whole (never-another family f other pool fw v rest room after g words bytes read .2) in
+          sym p ∙ o .same other pool _ (valid-size family other pool v) same ∙ valid-bytes family f other pool v ∙ sym is;
+      same-item = λ rest space short fits.
+          let input′ = production family taken row ++ rest in
+          subst (λ k. ReadBack k family taken row input′ space (reads family g input′ space)) (o .clear)
+          (sized-back family f row taken (o .small) m p rest space g (l .0) (l .1) short) .1 fits;
+    }
 
 -- ---- names that only run together alike
 

@@ -1,5 +1,5 @@
--- Imports: what was written is read back, or refused at its first byte above the grade; and what is accepted, written again beside its
--- own bytes, is these bytes.
+-- Imports: what was written is read back, or refused at its first byte above the grade; and what is accepted is written again beside its
+-- own bytes.
 use Prim.Native.Nat.{ℕ, _+_, _^_, _≤_}
 use native.Mathlib.Omega.{arith}
 use mathlib.Core.Path.{_≡_, subst}
@@ -12,11 +12,10 @@ use Rattle.fields.specs.Words.{word, Words}
 use Rattle.round_trip.specs.Mark.{rowMark}
 use Rattle.fields.specs.Answers.{leftRow}
 use Rattle.reading.specs.Read.{readItem}
-use Rattle.writing.specs.Write.{stored}
 use Rattle.round_trip.specs.Returned.{ReadsBack}
-use Rattle.round_trip.proofs.ItemLaws.{found-back, written-again}
+use Rattle.round_trip.proofs.ItemLaws.{found-back, WrittenAgain, written-again}
 use Rattle.items.specs.ReadImport.{readImport}
-use Rattle.imports.specs.Write.{shapeOf, measuredImport, writeImport}
+use Rattle.imports.specs.Write.{shapeOf, measuredImport}
 use Rattle.claims.specs.Demand3.{importMark}
 use Rattle.imports.proofs.SomeLaws.{importBytes, import-some}
 
@@ -31,7 +30,7 @@ import-back g row pool m fw e rest input room q any top short =
     (i .0)
     (found-back (shapeOf (word row 0)) 1 g row pool m fw e rest input room q any top short some)
 
-pub import-only : (g : ℕ) (input room after : List ℕ) (q e : ℕ) → Bytes input → readImport g input room ≡ leftRow (Item q e) after → e ≤ 65536
-    → (out : List ℕ) (at : ℕ) → writeImport (take q after) (take e input) out at ≡ stored (Size e) (take e input) out at
-unfolding readImport writeImport
-import-only g input room after q e fi r small out at = written-again shapeOf 17 1 g input room after q e fi r small out at
+pub import-only : (g : ℕ) (input room after : List ℕ) (q e : ℕ) → Bytes input → 1 ≤ g → readImport g input room ≡ leftRow (Item q e) after
+    → e ≤ 65536 → WrittenAgain (shapeOf (word (take q after) 0)) 1 g input (take e input) (take q after)
+unfolding readImport
+import-only g input room after q e fi any r few = written-again shapeOf (λ k. 1) 17 g input room after q e fi any (omega arith) r few

@@ -19,4 +19,5 @@ pub mod Steps
 pub mod StepsAccepted
 pub mod StepsAgain
 pub mod StepsOpen
+pub mod Taken
 pub mod TypesBack

@@ -74,9 +74,13 @@ names = ([], 0, 0, 0, room) ∷ ([], 0, 0, 0, []) ∷ []
 abbrev pub externs : List (List ℕ × List ℕ × ℕ × List ℕ)
 externs = ([], [], 0, room) ∷ ([], [], 0, []) ∷ []
 
--- OK, CUT, NUMBER: a number that is not in the shortest form, and one below zero
+-- 2^32
+abbrev past32 : List ℕ
+past32 = 0x80 ∷ 0x80 ∷ 0x80 ∷ 0x80 ∷ 0x10 ∷ []
+
+-- OK, CUT, NUMBER: a number past 32 bits, and one below zero
 abbrev pub unsigneds : List (List ℕ)
-unsigneds = (0x00 ∷ []) ∷ [] ∷ (0x80 ∷ 0x00 ∷ []) ∷ []
+unsigneds = (0x00 ∷ []) ∷ [] ∷ past32 ∷ []
 
 abbrev pub signeds : List (List ℕ)
 signeds = (0x00 ∷ []) ∷ [] ∷ (0x40 ∷ []) ∷ []
@@ -174,7 +178,7 @@ readTypes =
     ∷ (1, 0x7f ∷ [], [])
     ∷ (1, [], room)
     ∷ (1, 0x00 ∷ [], room)
-    ∷ (1, 0x69 ∷ 0x80 ∷ 0x00 ∷ [], room)
+    ∷ (1, 0x69 ∷ past32, room)
     ∷ (1, 0x64 ∷ [], room)
     ∷ []
 
@@ -186,7 +190,7 @@ readImports =
     ∷ (1, 0x00 ∷ 0x00 ∷ 0x01 ∷ 0x00 ∷ [], room)
     ∷ (1, [], room ++ room)
     ∷ (1, 0x01 ∷ [], room ++ room)
-    ∷ (1, 0x00 ∷ 0x80 ∷ 0x00 ∷ [], room ++ room)
+    ∷ (1, 0x00 ∷ past32, room ++ room)
     ∷ (1, 0x02 ∷ [], room ++ room)
     ∷ []
 
@@ -198,7 +202,7 @@ refusedItems =
     ∷ (found.Is importShape, 1, 1, 0x00 ∷ 0x00 ∷ 0x01 ∷ 0x00 ∷ [])
     ∷ (found.Is importShape, 1, 1, [])
     ∷ (found.Is importShape, 1, 1, 0x01 ∷ [])
-    ∷ (found.Is importShape, 1, 1, 0x00 ∷ 0x80 ∷ 0x00 ∷ [])
+    ∷ (found.Is importShape, 1, 1, 0x00 ∷ past32)
     ∷ (found.Is importShape, 1, 1, 0x02 ∷ [])
     ∷ []
 

@@ -1,5 +1,5 @@
--- Types: what was written is read back, or refused at its first byte above the grade; and what is accepted, written again beside its own
--- bytes, is these bytes.
+-- Types: what was written is read back, or refused at its first byte above the grade; and what is accepted is written again beside its own
+-- bytes.
 use Prim.Native.Nat.{ℕ, _+_, _-_, _^_, _≤_, _<_}
 use native.Mathlib.Omega.{arith}
 use mathlib.Core.Path.{_≡_, refl, sym, ap, _∙_, subst}
@@ -27,14 +27,14 @@ use Rattle.reading.specs.Scan.{byte}
 use Rattle.fields.specs.Shape.{seq}
 use Rattle.fields.specs.Table.{Line, twoOf, shapeIn, productionIn}
 use Rattle.fields.specs.Walk.{next, walk}
-use Rattle.writing.specs.Write.{judged, stored}
+use Rattle.writing.specs.Write.{judged}
 use Rattle.round_trip.specs.Returned.{ReadsBack}
-use Rattle.round_trip.proofs.ItemLaws.{found-back, written-again}
+use Rattle.round_trip.proofs.ItemLaws.{found-back, WrittenAgain, written-again}
 use Rattle.writing.specs.Agree.{All}
 use Rattle.writing.proofs.WholeLaws.{accepted}
-use Rattle.items.specs.ReadType.{firsts, kindIn, kindOf, leadGrade, readType}
+use Rattle.items.specs.ReadType.{First, firsts, kindIn, kindOf, leadGrade, readType}
 use Rattle.types.specs.Table.{table}
-use Rattle.types.specs.Write.{shapeOf, measuredType, writeType}
+use Rattle.types.specs.Write.{shapeOf, measuredType}
 use Rattle.types.proofs.Rows.{type-row}
 use Rattle.claims.specs.Demand3.{typeMark}
 use Rattle.numbers.proofs.Impossible.{impossible}
@@ -178,9 +178,33 @@ type-back g row pool m fw e rest input room q any top short =
     let some : 1 ≤ length input = rw q (omega (arith, length-append (typeBytes pool row) rest, first .1)) in
     rw kind (found-back (shapeOf (word row 0)) (leadGrade (word row 0)) g row pool m fw e rest input room q any top short some)
 
-pub type-only : (g : ℕ) (input room after : List ℕ) (q e : ℕ) → Bytes input → readType g input room ≡ leftRow (Item q e) after → e ≤ 65536
-    → (out : List ℕ) (at : ℕ) → writeType (take q after) (take e input) out at ≡ stored (Size e) (take e input) out at
-unfolding readType writeType
-type-only g input room after q e fi r small out at =
-    let k = kindOf (byte input 0) in
-    written-again shapeOf k (leadGrade k) g input room after q e fi r small out at
+-- a kind that a byte tells is a word
+abbrev low-kinds : List First → Bool
+low-kinds [] = true
+low-kinds (f ∷ fs) = cond (ltb (f .kind) 18) (low-kinds fs) false
+
+kind-in-small : (fs : List First) → low-kinds fs ≡ true → (b : ℕ) → kindIn fs b < 18
+unfolding kindIn
+kind-in-small [] t b = omega arith
+kind-in-small (f ∷ fs) t b = go (ltb (f .kind) 18) (eqb b (f .begins)) refl t (λ u. kind-in-small fs u b)
+  where
+    go : (s e : Bool) → ltb (f .kind) 18 ≡ s → cond s (low-kinds fs) false ≡ true → (low-kinds fs ≡ true → kindIn fs b < 18)
+        → cond e (f .kind) (kindIn fs b) < 18
+    go true true q t later = ltb-true _ _ q
+    go true false q t later = later t
+    go false e q t later = impossible cc
+
+kind-small : (b : ℕ) → kindOf b < 2 ^ 32
+unfolding kindOf
+kind-small b = go (ltb b 0x73) (ltb b 0x80) (kind-in-small firsts refl b)
+  where
+    go : (p q : Bool) → kindIn firsts b < 18 → cond p (kindIn firsts b) (cond q 0 17) < 2 ^ 32
+    go true q h = omega arith
+    go false true h = omega arith
+    go false false h = omega arith
+
+pub type-only : (g : ℕ) (input room after : List ℕ) (q e : ℕ) → Bytes input → 1 ≤ g → readType g input room ≡ leftRow (Item q e) after
+    → e ≤ 65536 → WrittenAgain (shapeOf (word (take q after) 0)) (leadGrade (word (take q after) 0)) g input (take e input) (take q after)
+unfolding readType
+type-only g input room after q e fi any r few =
+    written-again shapeOf leadGrade (kindOf (byte input 0)) g input room after q e fi any (kind-small (byte input 0)) r few

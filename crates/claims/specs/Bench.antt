@@ -1,5 +1,5 @@
--- Bytes laid on the bench: items as rows beside a pool, and the bytes that document 01 prints for them; and bytes that a reader
--- refuses.
+-- Bytes laid on the bench: items as rows beside a pool, and the bytes that document 01 prints for them; bytes that a reader refuses;
+-- and bytes with a padded number, that it takes.
 use Prim.Native.Nat.{ℕ}
 use mathlib.Core.Bool.{Bool, true, false}
 use mathlib.Core.List.{List, [], _∷_}
@@ -21,9 +21,17 @@ pub record Reading : Type 0 where
   pub why : Refusal
   pub place : ℕ
 
+pub record Taking : Type 0 where
+  -- whether an import is read, and not a type
+  pub import : Bool
+  pub bytes : List ℕ
+  -- its row, whose names stand in the bytes
+  pub row : List ℕ
+
 pub data Line : Type 0 where
   Written : Item → Line
   Refused : Reading → Line
+  Taken : Taking → Line
 
 abbrev type : List ℕ → List ℕ → List ℕ → Line
 type row pool bytes = Written (record { family = 7; row = row; pool = pool; bytes = bytes })
@@ -42,6 +50,12 @@ typeRead g bytes why place = Refused (record { import = false; grade = g; bytes 
 
 abbrev importRead : ℕ → List ℕ → Refusal → ℕ → Line
 importRead g bytes why place = Refused (record { import = true; grade = g; bytes = bytes; why = why; place = place })
+
+abbrev typeTaken : List ℕ → List ℕ → Line
+typeTaken bytes row = Taken (record { import = false; bytes = bytes; row = row })
+
+abbrev importTaken : List ℕ → List ℕ → Line
+importTaken bytes row = Taken (record { import = true; bytes = bytes; row = row })
 
 abbrev pub bench : List Line
 bench =
@@ -83,8 +97,22 @@ bench =
     ∷ typeRead 1 (0x72 ∷ 0x01 ∷ 0x01 ∷ 0x78 ∷ 0x64 ∷ []) refusal.Newer 4
     -- map string to u32, read at grade 2
     ∷ typeRead 2 (0x63 ∷ 0x73 ∷ 0x79 ∷ []) refusal.Newer 0
-    -- own 0 as 69 80 00
-    ∷ typeRead 3 (0x69 ∷ 0x80 ∷ 0x00 ∷ []) refusal.Number 1
     -- import lead 01
     ∷ importRead 3 (0x01 ∷ []) refusal.Code 0
+    -- own 0 as 69 80 00: padded numbers are legal (the fourth wish); and in five bytes
+    ∷ typeTaken (0x69 ∷ 0x80 ∷ 0x00 ∷ []) (11 ∷ 0 ∷ [])
+    ∷ typeTaken (0x69 ∷ 0x80 ∷ 0x80 ∷ 0x80 ∷ 0x80 ∷ 0x00 ∷ []) (11 ∷ 0 ∷ [])
+    -- list of index 0, and of 115 in five bytes
+    ∷ typeTaken (0x70 ∷ 0x80 ∷ 0x00 ∷ []) (3 ∷ 1 ∷ 0 ∷ [])
+    ∷ typeTaken (0x70 ∷ 0xf3 ∷ 0x80 ∷ 0x80 ∷ 0x80 ∷ 0x00 ∷ []) (3 ∷ 1 ∷ 115 ∷ [])
+    -- flags `x`, count and length padded
+    ∷ typeTaken (0x6e ∷ 0x81 ∷ 0x00 ∷ 0x81 ∷ 0x80 ∷ 0x00 ∷ 0x78 ∷ []) (7 ∷ 1 ∷ 6 ∷ 1 ∷ [])
+    -- import f, version suffix `1`, the count of options padded, function 0
+    ∷ importTaken (0x02 ∷ 0x01 ∷ 0x66 ∷ 0x81 ∷ 0x00 ∷ 0x01 ∷ 0x01 ∷ 0x31 ∷ 0x01 ∷ 0x00 ∷ [])
+    (17 ∷ 2 ∷ 1 ∷ 0 ∷ 0 ∷ 0 ∷ 1 ∷ 7 ∷ 1 ∷ 0 ∷ 0 ∷ 0 ∷ 1 ∷ 0 ∷ 0 ∷ [])
+    -- own 2^32; with an unused bit that is not 0; in five bytes that carry on; list of -1
+    ∷ typeRead 3 (0x69 ∷ 0x80 ∷ 0x80 ∷ 0x80 ∷ 0x80 ∷ 0x10 ∷ []) refusal.Number 1
+    ∷ typeRead 3 (0x69 ∷ 0x80 ∷ 0x80 ∷ 0x80 ∷ 0x80 ∷ 0x40 ∷ []) refusal.Number 1
+    ∷ typeRead 3 (0x69 ∷ 0x80 ∷ 0x80 ∷ 0x80 ∷ 0x80 ∷ 0x80 ∷ 0x00 ∷ []) refusal.Number 1
+    ∷ typeRead 3 (0x70 ∷ 0xff ∷ 0x7f ∷ []) refusal.Number 1
     ∷ []

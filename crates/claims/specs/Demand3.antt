@@ -1,5 +1,6 @@
 -- Demand 3: what was written of a valid row, with anything behind it, is read back at every grade as that item, or refused as NEWER at
--- the first byte that marks a form above the grade; and no other item is ever returned for it.
+-- the first byte that marks a form above the grade; and no other item is ever returned for it. What was read is written again as the
+-- same item, in no more bytes.
 use Prim.Native.Nat.{ℕ, _≤_, _<_}
 use mathlib.Core.Path.{_≡_}
 use mathlib.Core.Bool.{cond}
@@ -8,6 +9,7 @@ use mathlib.Core.List.{List, [], _∷_, _++_}
 use lib.Dec.{eqb}
 use lib.ListN.{length, take}
 use lib.Seq.{sets}
+use Rattle.numbers.specs.Again.{Again}
 use Rattle.numbers.specs.Bytes.{Bytes}
 use Rattle.fields.specs.declared.Answer.the-variants.{Size}
 use Rattle.fields.specs.declared.Found.{Found}
@@ -16,6 +18,7 @@ use Rattle.fields.specs.declared.Read.the-variants.{Item, Refused}
 use Rattle.fields.specs.declared.Refusal.the-variants as refusal
 use Rattle.fields.specs.Words.{word, Words}
 use Rattle.round_trip.specs.Mark.{Mark, Clear, At, rowMark, SameItem}
+use Rattle.round_trip.specs.Padded.{Padded}
 use Rattle.fields.specs.Answers.{LeftRow, leftRow}
 use Rattle.reading.specs.Scan.{byte}
 use Rattle.writing.specs.Write.{stored}
@@ -78,6 +81,21 @@ ReadBack Clear family pool row input room l =
     (length room < length row → l ≡ leftRow (Refused refusal.Room (length row)) room)
     × (length row ≤ length room → Returned family pool row input room l)
 
+-- a row that was read at grade g of the bytes `taken`, written again with those bytes as the pool
+pub record WrittenAgain (family g : ℕ) (taken row : List ℕ) : Type 0 where
+  -- it is accepted, and written as its production
+  pub writes : (out : List ℕ) (at : ℕ)
+      → writeFamily family row taken out at ≡ stored (Size (length (production family taken row))) (production family taken row) out at
+  -- byte for byte what was taken, but each number in its shortest form
+  pub padded : Padded taken (production family taken row)
+  -- so in no more bytes than were taken; in exactly those where they are as many, and where they are some row's, with no number padded
+  pub again : Again taken (production family taken row)
+  pub unpadded : (other pool : List ℕ) → Words other → Valid family other pool → taken ≡ production family pool other
+      → production family taken row ≡ taken
+  -- and what is written, with anything behind it, is read at that grade as the same item
+  pub same-item : (rest room : List ℕ) → length (production family taken row ++ rest) ≤ inputBytes → length row ≤ length room
+      → Returned family taken row (production family taken row ++ rest) room (reads family g (production family taken row ++ rest) room)
+
 -- flags named 02 and 78, and the bytes they are written as; and words that name, beside these bytes, nothing (past the end) and 01 78.
 -- With their lengths and run together, the names of both are 01 02 01 78.
 abbrev pub flagsRow : List ℕ
@@ -108,10 +126,10 @@ pub record Demand3 : Type 0 where
   pub newer-at : (family : ℕ) → Readable family → (row pool : List ℕ) → Words row → Valid family row pool
       → (g j : ℕ) → 1 ≤ g → firstAbove family g pool row ≡ At j
       → (j < length (production family pool row)) × Marking family g (byte (production family pool row) j)
-  -- what is accepted and took at most 65,536 bytes, written again with those bytes as the pool, is exactly those bytes
+  -- what is accepted and took at most 65,536 bytes, written again with those bytes as the pool
   pub written-again : (family : ℕ) → Readable family → (input room after : List ℕ) (g words bytes : ℕ) → Bytes input
-      → reads family g input room ≡ leftRow (Item words bytes) after → bytes ≤ poolBytes → (out : List ℕ) (at : ℕ)
-      → writeFamily family (take words after) (take bytes input) out at ≡ stored (Size bytes) (take bytes input) out at
+      → reads family g input room ≡ leftRow (Item words bytes) after → bytes ≤ poolBytes
+      → WrittenAgain family g (take bytes input) (take words after)
   -- "same item" is not met by names that only run together alike: the flags are written as those bytes, and the other words are not the
   -- same item
   pub not-the-same : ((out : List ℕ) (at : ℕ) → writeFamily 7 flagsRow flagsPool out at ≡ stored (Size 6) flagsBytes out at)

@@ -8,4 +8,5 @@ pub mod Numbers
 pub mod One
 pub mod OneCalls
 pub mod Steps
+pub mod Taken
 pub mod Valid

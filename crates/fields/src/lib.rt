@@ -114,7 +114,7 @@ pub enum Refusal {
     Cut,
     // A byte that cannot stand there.
     Code,
-    // No number of 32 bits in the shortest form.
+    // No number of 32 bits in at most five bytes.
     Number,
     // A form above the grade.
     Newer,

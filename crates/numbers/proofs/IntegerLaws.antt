@@ -1,4 +1,4 @@
--- The bytes that are put are the core document's, and no others of its are fewer.
+-- The bytes that are put are the core document's, no others of its are fewer, and none that are as many are others.
 use Prim.Native.Nat.{ℕ, zero, suc, _+_, _-_, _*_, _/_, _%_, _^_, _≤_, _<_}
 use native.Mathlib.Omega.{arith}
 use mathlib.Core.Path.{_≡_, refl, sym, ap, _∙_, subst}
@@ -8,13 +8,14 @@ use lib.Dec.{ltb}
 use lib.ListN.{length}
 use lib.Pow.{pow-add}
 use borrow.Author.Tests.{ltb-true, ltb-false}
+use Rattle.numbers.specs.Again.{Again}
 use Rattle.numbers.specs.Bytes.{Bytes}
 use Rattle.numbers.specs.Integers.{Integer, last, more, Form, u32, s33}
 use Rattle.numbers.specs.Leb.{bytesOf}
 use Rattle.numbers.proofs.Shortest.{bytes-last, bytes-more}
 
 -- the bits of value that have room in j + 1 bytes: 32 in five
-abbrev bits : ℕ → ℕ
+abbrev pub bits : ℕ → ℕ
 bits zero = 4
 bits (suc j) = 7 + bits j
 
@@ -67,6 +68,46 @@ shortest {end} (more {N} {n} {m} {bytes} l h p i) (suc k) = go (ltb (2 ^ 7 * m +
     go false e ih =
         let d : (2 ^ 7 * m + (n - 2 ^ 7)) / 128 ≡ m = omega arith in
         rw (bytes-more end k (2 ^ 7 * m + (n - 2 ^ 7)) (ltb-false _ _ e)) (rw d (omega arith))
+
+-- an integer has a byte
+integer-some : {end sign N : ℕ} {bytes : List ℕ} {n : ℕ} → Integer end sign N bytes n → 0 < length bytes
+integer-some (last l h) = omega arith
+integer-some (more l h p i) = omega arith
+
+-- and as many bytes as the shortest form only where it is that form
+same-size : {end sign N : ℕ} {bytes : List ℕ} {n : ℕ} → Integer end sign N bytes n → (k : ℕ)
+    → length (bytesOf end k n) ≡ length bytes → bytesOf end k n ≡ bytes
+unfolding bytesOf
+same-size (last l h) zero e = absurd (omega arith)
+same-size {end} (last {N} {n} l h) (suc k) e = bytes-last end k n l
+same-size (more l h p i) zero e = absurd (omega arith)
+same-size {end} (more {N} {n} {m} {bytes} l h p i) (suc k) e = go (ltb v end) refl (λ q. same-size i k q)
+  where
+    v : ℕ
+    v = 2 ^ 7 * m + (n - 2 ^ 7)
+
+    go : (t : Bool) → ltb v end ≡ t → (length (bytesOf end k m) ≡ length bytes → bytesOf end k m ≡ bytes) → bytesOf end (suc k) v ≡ n ∷ bytes
+    go true q ih =
+        let one : length (bytesOf end (suc k) v) ≡ 1 = ap length (bytes-last end k v (ltb-true v end q)) in
+        absurd (omega (arith, e, integer-some i))
+    go false q ih =
+        let d : v / 128 ≡ m = omega arith in
+        let b : v % 128 + 128 ≡ n = omega arith in
+        let two : bytesOf end (suc k) v ≡ n ∷ bytesOf end k m = bytes-more end k v (ltb-false v end q) ∙ (λ x. b x ∷ bytesOf end k (d x)) in
+        let long : length (bytesOf end (suc k) v) ≡ suc (length (bytesOf end k m)) = ap length two in
+        two ∙ ap (λ l. n ∷ l) (ih (omega (arith, e)))
+
+-- so the shortest form is written again for it
+pub integer-again : {end sign N : ℕ} {bytes : List ℕ} {n : ℕ} → Integer end sign N bytes n → (k : ℕ) → Again bytes (bytesOf end k n)
+integer-again i k = record { no-more = shortest i k; same = λ e. same-size i k e }
+
+-- it has at most j + 1 bytes
+pub integer-size : (j : ℕ) {end sign N : ℕ} {bytes : List ℕ} {n : ℕ} → N ≡ bits j + sign → sign ≤ 1 → Integer end sign N bytes n → length bytes ≤ suc j
+integer-size j e s (last l h) = omega arith
+integer-size zero e s (more l h p i) = absurd (omega arith)
+integer-size (suc j) {sign = sign} e s (more {N} l h p i) =
+    let d : N - 7 ≡ bits j + sign = omega arith in
+    omega (arith, integer-size j d s i)
 
 -- an integer is bytes
 pub integer-bytes : {end sign N : ℕ} {bytes : List ℕ} {n : ℕ} → Form end sign → Integer end sign N bytes n → Bytes bytes

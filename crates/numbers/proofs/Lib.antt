@@ -4,9 +4,11 @@ mod TextChunks
 mod TextRows
 mod ThreeBytes
 mod Vectors
+pub mod AgainLaws
 pub mod Beginnings
 pub mod BytesLaws
 pub mod CopyLaws
+pub mod ExactLaws
 pub mod Impossible
 pub mod IntegerLaws
 pub mod LebLaws

@@ -15,6 +15,7 @@ use Rattle.numbers.specs.Seen.{number, seen, shortSigned}
 use Rattle.numbers.specs.declared.leb.Number.{Number}
 use Rattle.numbers.specs.declared.leb.Taken.{Taken}
 use Rattle.numbers.specs.declared.leb.Taken.the-variants.{Value, Cut, Bad}
+use Rattle.numbers.proofs.ExactLaws.{taken-small}
 use Rattle.numbers.proofs.LebLaws.{taken-inside, take-one}
 use Rattle.numbers.proofs.Impossible.{impossible}
 
@@ -37,23 +38,7 @@ seen-taken (Value n k) h = refl
 seen-taken Cut h = absurd (omega arith)
 seen-taken Bad h = absurd (omega arith)
 
--- a number that was taken has 32 bits
-pub taken-small : (end : ℕ) (s : List ℕ) (n t : ℕ) → takeIn end s ≡ Value n t → n < 2 ^ 32
-unfolding takeIn within32
-taken-small end s n t e = go (numberIn end 5 s) e
-  where
-    fit : (w u : ℕ) (q : Bool) → ltb w (2 ^ 32) ≡ q → cond q (Value w u) Bad ≡ Value n t → n < 2 ^ 32
-    fit w u true eq e =
-        let x : w ≡ n = cc in
-        omega (arith, ltb-true w (2 ^ 32) eq)
-    fit w u false eq e = impossible cc
-
-    go : (r : Taken) → within32 r ≡ Value n t → n < 2 ^ 32
-    go (Value w u) e = fit w u (ltb w (2 ^ 32)) refl e
-    go Cut e = impossible cc
-    go Bad e = impossible cc
-
--- the same of each form
+-- a number that was taken has 32 bits, of each form
 pub index-small : (s : List ℕ) (n t : ℕ) → takeUnsigned s ≡ Value n t → n < 2 ^ 32
 index-small s n t e = taken-small 128 s n t e
 
@@ -120,43 +105,23 @@ few-three b c d hb kb hc kc =
     let same : d * (c / 128) ≡ d = ap (λ k. d * k) one ∙ mul-one d in
     omega arith
 
--- the number of two bytes, its last below 64: not the shortest form, or itself; and a last byte that is too great
-two-low : (b c : ℕ) (s : List ℕ) → 128 ≤ b → c < 64 → c * 128 + (b - 128) < 64 → takeSigned (b ∷ c ∷ s) ≡ Bad
+-- the number of two bytes, its last below 64; and a last byte that is too great
+two-is : (b c : ℕ) (s : List ℕ) → 128 ≤ b → b < 256 → c < 64 → takeSigned (b ∷ c ∷ s) ≡ Value (c * 128 + (b - 128)) 2
 unfolding takeIn within32 numberIn more
-two-low b c s hb hc k = simp (le-ltb b 128 hb, lt-ltb c 128 (omega arith), lt-ltb c 64 hc, lt-ltb (c * 128 + (b - 128)) 64 k)
-
-two-is : (b c : ℕ) (s : List ℕ) → 128 ≤ b → b < 256 → c < 64 → 64 ≤ c * 128 + (b - 128)
-    → takeSigned (b ∷ c ∷ s) ≡ Value (c * 128 + (b - 128)) 2
-unfolding takeIn within32 numberIn more
-two-is b c s hb kb hc k =
-    let n = c * 128 + (b - 128) in
-    simp (le-ltb b 128 hb, lt-ltb c 128 (omega arith), lt-ltb c 64 hc, le-ltb n 64 k, lt-ltb n (2 ^ 32) (omega arith))
+two-is b c s hb kb hc =
+    simp (le-ltb b 128 hb, lt-ltb c 128 (omega arith), lt-ltb c 64 hc, lt-ltb (c * 128 + (b - 128)) (2 ^ 32) (omega arith))
 
 two-past : (b c : ℕ) (s : List ℕ) → 128 ≤ b → 64 ≤ c → c < 128 → takeSigned (b ∷ c ∷ s) ≡ Bad
 unfolding takeIn within32 numberIn more
 two-past b c s hb hc kc = simp (le-ltb b 128 hb, lt-ltb c 128 kc, le-ltb c 64 hc)
 
 -- the same of three bytes; and a third that is not the last
-three-low : (b c d : ℕ) (s : List ℕ) → 128 ≤ b → 128 ≤ c → d < 64 → d * 128 + (c - 128) < 64 → takeSigned (b ∷ c ∷ d ∷ s) ≡ Bad
-unfolding takeIn within32 numberIn more
-three-low b c d s hb hc hd k =
-    simp (le-ltb b 128 hb, le-ltb c 128 hc, lt-ltb d 128 (omega arith), lt-ltb d 64 hd, lt-ltb (d * 128 + (c - 128)) 64 k)
-
-three-is : (b c d : ℕ) (s : List ℕ) → 128 ≤ b → b < 256 → 128 ≤ c → c < 256 → d < 64 → 64 ≤ d * 128 + (c - 128)
+three-is : (b c d : ℕ) (s : List ℕ) → 128 ≤ b → b < 256 → 128 ≤ c → c < 256 → d < 64
     → takeSigned (b ∷ c ∷ d ∷ s) ≡ Value ((d * 128 + (c - 128)) * 128 + (b - 128)) 3
 unfolding takeIn within32 numberIn more
-three-is b c d s hb kb hc kc hd k =
-    let m = d * 128 + (c - 128) in
-    let n = m * 128 + (b - 128) in
-    simp (
-      le-ltb b 128 hb,
-      le-ltb c 128 hc,
-      lt-ltb d 128 (omega arith),
-      lt-ltb d 64 hd,
-      le-ltb m 64 k,
-      le-ltb n 64 (omega arith),
-      lt-ltb n (2 ^ 32) (omega arith),
-    )
+three-is b c d s hb kb hc kc hd =
+    let n = (d * 128 + (c - 128)) * 128 + (b - 128) in
+    simp (le-ltb b 128 hb, le-ltb c 128 hc, lt-ltb d 128 (omega arith), lt-ltb d 64 hd, lt-ltb n (2 ^ 32) (omega arith))
 
 three-past : (b c d : ℕ) (s : List ℕ) → 128 ≤ b → 128 ≤ c → 64 ≤ d → d < 128 → takeSigned (b ∷ c ∷ d ∷ s) ≡ Bad
 unfolding takeIn within32 numberIn more
@@ -166,53 +131,34 @@ three-cut : (b c d : ℕ) → 128 ≤ b → 128 ≤ c → 128 ≤ d → takeSign
 unfolding takeIn within32 numberIn more
 three-cut b c d hb hc hd = simp (le-ltb b 128 hb, le-ltb c 128 hc, le-ltb d 128 hd)
 
--- where the last two bytes are x and y, what the bytes come to is seen between the bounds of these, and nothing outside
-module _ (b c d x y : ℕ) (hb : 128 ≤ b) (kb : b < 256) (kc : c < 256) (two : c < 128 → (x ≡ b) × (y ≡ c))
-    (three : 128 ≤ c → (x ≡ c) × (y ≡ d)) where
-  few-below : 256 * y + x < 0xc0 → number 0 0 ≡ seen (takeSigned (b ∷ c ∷ d ∷ []))
-  few-below h = go (ltb c 128) refl
-    where
-      go : (t : Bool) → ltb c 128 ≡ t → number 0 0 ≡ seen (takeSigned (b ∷ c ∷ d ∷ []))
-      go true e =
-          let is = two (ltb-true c 128 e) in
-          sym (seen-bad _ (two-low b c (d ∷ []) hb (omega (arith, is)) (omega (arith, is))))
-      go false e =
-          let hc : 128 ≤ c = ltb-false c 128 e in
-          let is = three hc in
-          sym (seen-bad _ (three-low b c d [] hb hc (omega (arith, is)) (omega (arith, is))))
-
-  few-above : 0x4000 ≤ 256 * y + x → number 0 0 ≡ seen (takeSigned (b ∷ c ∷ d ∷ []))
+-- where the last byte is y, what the bytes come to is seen where y is below 64, and nothing else
+module _ (b c d y : ℕ) (hb : 128 ≤ b) (kb : b < 256) (kc : c < 256) (two : c < 128 → y ≡ c) (three : 128 ≤ c → y ≡ d) where
+  few-above : 64 ≤ y → number 0 0 ≡ seen (takeSigned (b ∷ c ∷ d ∷ []))
   few-above h = go (ltb c 128) refl (ltb d 128) refl
     where
       go : (t : Bool) → ltb c 128 ≡ t → (u : Bool) → ltb d 128 ≡ u → number 0 0 ≡ seen (takeSigned (b ∷ c ∷ d ∷ []))
       go true e u q =
           let hc : c < 128 = ltb-true c 128 e in
-          let is = two hc in
-          sym (seen-bad _ (two-past b c (d ∷ []) hb (omega (arith, is)) hc))
+          sym (seen-bad _ (two-past b c (d ∷ []) hb (omega (arith, two hc)) hc))
       go false e true q =
           let hc : 128 ≤ c = ltb-false c 128 e in
-          let is = three hc in
-          sym (seen-bad _ (three-past b c d [] hb hc (omega (arith, is)) (ltb-true d 128 q)))
+          sym (seen-bad _ (three-past b c d [] hb hc (omega (arith, three hc)) (ltb-true d 128 q)))
       go false e false q = sym (seen-cut _ (three-cut b c d hb (ltb-false c 128 e) (ltb-false d 128 q)))
 
-  few-is : 0xc0 ≤ 256 * y + x → 256 * y + x < 0x4000 → number (few b c y) (2 + c / 128) ≡ seen (takeSigned (b ∷ c ∷ d ∷ []))
-  few-is h k = go (ltb c 128) refl
+  few-is : y < 64 → number (few b c y) (2 + c / 128) ≡ seen (takeSigned (b ∷ c ∷ d ∷ []))
+  few-is h = go (ltb c 128) refl
     where
       go : (t : Bool) → ltb c 128 ≡ t → number (few b c y) (2 + c / 128) ≡ seen (takeSigned (b ∷ c ∷ d ∷ []))
       go true e =
           let hc : c < 128 = ltb-true c 128 e in
-          let is = two hc in
           let value = few-two b c y hb kb hc in
           let took : 2 + c / 128 ≡ 2 = omega arith in
-          (λ i. number (value i) (took i))
-          ∙ sym (seen-value _ _ _ (two-is b c (d ∷ []) hb kb (omega (arith, is)) (omega (arith, is))))
+          (λ i. number (value i) (took i)) ∙ sym (seen-value _ _ _ (two-is b c (d ∷ []) hb kb (omega (arith, two hc))))
       go false e =
           let hc : 128 ≤ c = ltb-false c 128 e in
-          let is = three hc in
-          let value = ap (λ n. few b c n) (is .1) ∙ few-three b c d hb kb hc kc in
+          let value = ap (λ n. few b c n) (three hc) ∙ few-three b c d hb kb hc kc in
           let took : 2 + c / 128 ≡ 3 = omega arith in
-          (λ i. number (value i) (took i))
-          ∙ sym (seen-value _ _ _ (three-is b c d [] hb kb hc kc (omega (arith, is)) (omega (arith, is))))
+          (λ i. number (value i) (took i)) ∙ sym (seen-value _ _ _ (three-is b c d [] hb kb hc kc (omega (arith, three hc))))
 
 -- ---- a short number at the front
 
@@ -238,34 +184,27 @@ unfolding shortSigned
 short-is s h k =
     simp (le-ltb (length s) 3 h, le-ltb (getD s 0 0) 128 k) (ap (λ (l : List ℕ). seen (takeSigned l)) (sym (first-three s h)))
 
--- its last two bytes, where the second is the last, and where it is not
-abbrev before : List ℕ → ℕ
-before s = getD s (getD s 1 0 / 128) 0
-
+-- its last byte, where the second is the last, and where it is not
 abbrev last : List ℕ → ℕ
 last s = getD s (getD s 1 0 / 128 + 1) 0
 
-last-two : (s : List ℕ) → getD s 1 0 < 128 → (before s ≡ getD s 0 0) × (last s ≡ getD s 1 0)
+last-two : (s : List ℕ) → getD s 1 0 < 128 → last s ≡ getD s 1 0
 last-two s h =
     let none : getD s 1 0 / 128 ≡ 0 = omega arith in
-    (ap (λ k. getD s k 0) none, ap (λ k. getD s (k + 1) 0) none)
+    ap (λ k. getD s (k + 1) 0) none
 
-last-three : (s : List ℕ) → getD s 1 0 < 256 → 128 ≤ getD s 1 0 → (before s ≡ getD s 1 0) × (last s ≡ getD s 2 0)
+last-three : (s : List ℕ) → getD s 1 0 < 256 → 128 ≤ getD s 1 0 → last s ≡ getD s 2 0
 last-three s k h =
     let one : getD s 1 0 / 128 ≡ 1 = omega arith in
-    (ap (λ k. getD s k 0) one, ap (λ k. getD s (k + 1) 0) one)
+    ap (λ k. getD s (k + 1) 0) one
 
--- they tell whether there is one
+-- it tells whether there is one
 module _ (s : List ℕ) (h : 3 ≤ length s) (hb : 128 ≤ getD s 0 0) (kb : getD s 0 0 < 256) (kc : getD s 1 0 < 256) where
-  pub short-below : 256 * last s + before s < 0xc0 → number 0 0 ≡ shortSigned s
-  short-below k = few-below _ _ _ _ _ hb kb kc (last-two s) (last-three s kc) k ∙ short-is s h hb
+  pub short-above : 64 ≤ last s → number 0 0 ≡ shortSigned s
+  short-above k = few-above _ _ _ _ hb kb kc (last-two s) (last-three s kc) k ∙ short-is s h hb
 
-  pub short-above : 0x4000 ≤ 256 * last s + before s → number 0 0 ≡ shortSigned s
-  short-above k = few-above _ _ _ _ _ hb kb kc (last-two s) (last-three s kc) k ∙ short-is s h hb
-
-  pub short-between : 0xc0 ≤ 256 * last s + before s → 256 * last s + before s < 0x4000
-      → number (few (getD s 0 0) (getD s 1 0) (last s)) (2 + getD s 1 0 / 128) ≡ shortSigned s
-  short-between k m = few-is _ _ _ _ _ hb kb kc (last-two s) (last-three s kc) k m ∙ short-is s h hb
+  pub short-below : last s < 64 → number (few (getD s 0 0) (getD s 1 0) (last s)) (2 + getD s 1 0 / 128) ≡ shortSigned s
+  short-below k = few-is _ _ _ _ hb kb kc (last-two s) (last-three s kc) k ∙ short-is s h hb
 
 -- a number at the front is there whatever follows
 module _ (end : ℕ) where
@@ -278,14 +217,14 @@ module _ (end : ℕ) where
   longer-cons k b s rest ih v t e = go (ltb b 128) refl e
     where
       goal : Bool → Type 0
-      goal p = cond p (cond (ltb b end) (Value b 1) Bad) (more end b (numberIn end k (s ++ rest))) ≡ Value v t
+      goal p = cond p (cond (ltb b end) (Value b 1) Bad) (more b (numberIn end k (s ++ rest))) ≡ Value v t
 
-      last : (r : Taken) → numberIn end k s ≡ r → more end b r ≡ Value v t → goal false
-      last (Value w u) r e = ap (λ (x : Taken). more end b x) (ih w u r) ∙ e
+      last : (r : Taken) → numberIn end k s ≡ r → more b r ≡ Value v t → goal false
+      last (Value w u) r e = ap (λ (x : Taken). more b x) (ih w u r) ∙ e
       last Cut r e = impossible cc
       last Bad r e = impossible cc
 
-      go : (p : Bool) → ltb b 128 ≡ p → cond p (cond (ltb b end) (Value b 1) Bad) (more end b (numberIn end k s)) ≡ Value v t → goal p
+      go : (p : Bool) → ltb b 128 ≡ p → cond p (cond (ltb b end) (Value b 1) Bad) (more b (numberIn end k s)) ≡ Value v t → goal p
       go true q e = e
       go false q e = last (numberIn end k s) refl e
 

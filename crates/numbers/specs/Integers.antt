@@ -3,8 +3,8 @@
 --        | n:byte m:u(N-7)  => 2^7 * m + (n - 2^7)    (if n >= 2^7 and N > 7)
 --   sN ::= n:byte           => n                      (if n < 2^6 and n < 2^(N-1))
 --        | n:byte m:s(N-7)  => 2^7 * m + (n - 2^7)    (if n >= 2^7 and N > 7)
--- They differ in the bound of the last byte and in the bit that the sign takes, so both are one family. It allows padding; that
--- the bytes of `Leb.antt` are among these, and the shortest of them, is proved in proofs/IntegerLaws.antt.
+-- They differ in the bound of the last byte and in the bit that the sign takes, so both are one family. It allows padding: a number
+-- is taken from exactly these bytes (`Exact.antt`), and put as the shortest of them (proofs/IntegerLaws.antt).
 use Prim.Native.Nat.{ℕ, _+_, _-_, _*_, _^_, _≤_, _<_}
 use mathlib.Core.List.{List, [], _∷_}
 

@@ -1,6 +1,6 @@
--- Integers as LEB128 bytes (WebAssembly core, 5.2.2), in the shortest form: seven bits a byte, the lowest first, and 128 added to
--- each byte that another one follows. `end` bounds the last byte: 128 in a u32, and 64 in an s33 that is not below zero, whose last
--- byte leaves the sign's bit clear.
+-- Integers as LEB128 bytes (WebAssembly core, 5.2.2): seven bits a byte, the lowest first, and 128 added to each byte that another one
+-- follows. `end` bounds the last byte: 128 in a u32, and 64 in an s33 that is not below zero, whose last byte leaves the sign's bit
+-- clear. Put in the shortest form; taken in every form of 32 bits and five bytes, those that zeros pad included (`Exact.antt`).
 use Prim.Native.Nat.{ℕ, zero, suc, _+_, _-_, _*_, _/_, _%_, _^_}
 use mathlib.Core.Bool.{cond}
 use mathlib.Core.List.{List, [], _∷_}
@@ -24,17 +24,17 @@ signed n = bytesOf 64 5 n
 
 -- ---- taking
 
--- the byte b, which another follows, before what the bytes after it come to: a number that has room in fewer bytes is not shortest
-unfoldable pub more : ℕ → ℕ → Taken → Taken
-more end b (Value v t) = cond (ltb (v * 128 + (b - 128)) end) Bad (Value (v * 128 + (b - 128)) (t + 1))
-more end b Cut = Cut
-more end b Bad = Bad
+-- the byte b, which another follows, before what the bytes after it come to
+unfoldable pub more : ℕ → Taken → Taken
+more b (Value v t) = Value (v * 128 + (b - 128)) (t + 1)
+more b Cut = Cut
+more b Bad = Bad
 
 -- the number at the front of the bytes, of at most k bytes, and how many it has
 unfoldable pub numberIn : ℕ → ℕ → List ℕ → Taken
 numberIn end zero s = Bad
 numberIn end (suc k) [] = Cut
-numberIn end (suc k) (b ∷ s) = cond (ltb b 128) (cond (ltb b end) (Value b 1) Bad) (more end b (numberIn end k s))
+numberIn end (suc k) (b ∷ s) = cond (ltb b 128) (cond (ltb b end) (Value b 1) Bad) (more b (numberIn end k s))
 
 -- a number of 32 bits
 unfoldable pub within32 : Taken → Taken

@@ -1,5 +1,7 @@
+pub mod Again
 pub mod Beginnings
 pub mod Bytes
+pub mod Exact
 pub mod Integers
 pub mod Leb
 pub mod Names

@@ -1,36 +1,41 @@
--- Names and extern names that are read, written again beside the bytes taken, give these bytes.
-use Prim.Native.Nat.{ℕ, _+_, _-_, _^_, _≤_, _<_}
+-- Names and extern names that are read, written again beside the bytes taken, give these bytes, with each number in its shortest form.
+use Prim.Native.Nat.{ℕ, suc, _+_, _-_, _^_, _≤_, _<_}
 use native.Mathlib.Omega.{arith}
 use native.Mathlib.Numerals.{add-one}
 use mathlib.Core.Path.{_≡_, refl, sym, ap, _∙_}
 use mathlib.Core.Bool.{Bool, true, false, cond}
-use mathlib.Core.List.{List, [], _∷_, _++_, append-assoc}
+use mathlib.Core.List.{List, [], _∷_, _++_}
 use borrow.Author.Tests.{ltb-true, leb-true, eqb-true, eqb-false, le-leb, ne-eqb}
 use lib.Dec.{eqb, ltb, leb}
-use lib.ListN.{length, take, drop, length-append, length-take, length-drop, take-append-drop}
-use lib.Seq.{length-take-le, take-add, take-take, take-at, drop-at, drop-drop, drop-cons}
+use lib.ListN.{length, take, drop, length-take, length-drop}
+use lib.Seq.{length-take-le, take-add, take-take, drop-at, drop-drop, drop-cons}
 use Rattle.numbers.specs.declared.leb.Taken.{Taken}
 use Rattle.numbers.specs.declared.leb.Taken.the-variants as taken
 use Rattle.numbers.specs.Bytes.{Bytes}
 use Rattle.numbers.specs.Integers.{u32}
 use Rattle.numbers.specs.Leb.{unsigned, takeUnsigned}
 use Rattle.numbers.specs.Text.{text, stop}
-use Rattle.numbers.proofs.LebLaws.{taken-only, taken-inside, one-byte}
+use Rattle.numbers.proofs.ExactLaws.{taken-small}
+use Rattle.numbers.proofs.LebLaws.{taken-inside, one-byte}
 use Rattle.fields.specs.declared.Field.the-variants as field
 use Rattle.fields.specs.declared.Flaw.the-variants.{Right}
 use Rattle.fields.specs.declared.Refusal.the-variants.{Text, Code}
 use Rattle.fields.specs.Answers.{offsetOf}
 use Rattle.fields.specs.declared.Leaf.{Leaf}
 use Rattle.fields.specs.declared.Leaf.the-variants.{Fine, Bad}
-use Rattle.fields.specs.Words.{word, chars, wide}
+use Rattle.fields.specs.Words.{word, Words, chars, wide}
 use Rattle.writing.specs.Binary.{name, flag, slotAt, slotsAt, slots, externname, bytes}
 use Rattle.reading.specs.Fill.{sizeIn, valueIn, fillName, fillSlot, fillSlots, fillExtern, fill}
 use Rattle.writing.specs.Judge.{then, named, optionalName, flaw}
 use Rattle.reading.specs.Scan as scans
 use Rattle.reading.specs.Scan.{byte, cut, there, past, scanName, onward, stringAt, countAt, counted, slotScan, endScan, headScan, firstScan, secondScan, scanExtern}
-use Rattle.fields.specs.View.{view}
+use Rattle.fields.specs.View.{Word, Name, view, said}
+use Rattle.round_trip.specs.Padded.{Padded}
+use Rattle.round_trip.proofs.PaddedLaws.{padded-same, padded-by, padded-both, padded-behind, padded-number}
 use Rattle.round_trip.proofs.ExternBack.{NameRight, Slot, absent, present, slotOf, headOf, no-slot, head-and-slots}
+use Rattle.round_trip.proofs.GradeOnly.{words-and, name-words, slot-words, asked-clear}
 use Rattle.round_trip.proofs.Only.{Only, only-words}
+use Rattle.round_trip.specs.Mark.{Clear, asks, mark}
 use Rattle.round_trip.proofs.ScanOnly.{there-fine, asked-fine, past-fine, Either, first, second, either-fine, bytes-behind}
 use Rattle.numbers.proofs.Impossible.{impossible}
 
@@ -48,20 +53,32 @@ part-of n s e l h k =
 front-length : (n e : ℕ) (l : List ℕ) → n ≤ e → n ≤ length l → n ≤ length (take e l)
 front-length n e l h k = omega (arith, length-take e l)
 
--- a byte and what stands behind it
-byte-and : (xs : List ℕ) (at y : ℕ) → at < length xs → byte xs at ≡ y → y ∷ drop (at + 1) xs ≡ drop at xs
-byte-and xs at y h e =
-    ap (λ n. n ∷ drop (at + 1) xs) (sym e) ∙ ap (λ i. byte xs at ∷ drop i xs) (add-one at) ∙ sym (drop-cons xs at 0 h)
+-- the part from a to b
+abbrev part : List ℕ → ℕ → ℕ → List ℕ
+part xs a b = take (b - a) (drop a xs)
+
+-- a part, and the one behind it
+part-and : (xs : List ℕ) (a b c : ℕ) → a ≤ b → b ≤ c → part xs a b ++ part xs b c ≡ part xs a c
+part-and xs a b c h k =
+    let whole : b - a + (c - b) ≡ c - a = omega arith in
+    let place : a + (b - a) ≡ b = omega arith in
+    ap (λ n. part xs a b ++ take (c - b) (drop n xs)) (sym place)
+    ∙ ap (λ l. part xs a b ++ take (c - b) l) (sym (drop-drop (b - a) a xs))
+    ∙ sym (take-add (b - a) (c - b) (drop a xs))
+    ∙ ap (λ n. take n (drop a xs)) whole
+
+-- a byte, and the part behind it
+byte-and : (xs : List ℕ) (a b y : ℕ) → a < length xs → a + 1 ≤ b → byte xs a ≡ y → y ∷ part xs (a + 1) b ≡ part xs a b
+byte-and xs a b y h k e =
+    let more : b - a ≡ suc (b - (a + 1)) = omega arith in
+    ap (λ n. n ∷ part xs (a + 1) b) (sym e)
+    ∙ ap (λ n. byte xs a ∷ take (b - (a + 1)) (drop n xs)) (add-one a)
+    ∙ ap (λ l. take (suc (b - (a + 1))) l) (sym (drop-cons xs a 0 h))
+    ∙ ap (λ n. take n (drop a xs)) (sym more)
 
 onward-fine : (l : Leaf) (k : ℕ → ℕ → Leaf) (t m : ℕ) → onward l k ≡ Fine t m → (a c : ℕ) × (l ≡ Fine a c) × (k a c ≡ Fine t m)
 onward-fine (Fine a c) k t m e = (a, c, refl, e)
 onward-fine (Bad w j) k t m e = impossible cc
-
--- lead, name and count, with what stands behind them
-head-again : (xs nm : List ℕ) (n h a : ℕ) → (n ≡ 0 → ⊥) → n ∷ drop h xs ≡ drop a xs → nm ++ drop a xs ≡ drop 1 xs → 0x02 ∷ drop 1 xs ≡ xs
-    → headOf n nm ++ drop h xs ≡ xs
-head-again xs nm n h a some count string lead =
-    simp (ne-eqb n 0 some) (ap (λ l. 0x02 ∷ l) (append-assoc nm (n ∷ []) (drop h xs) ∙ ap (λ l. nm ++ l) count ∙ string) ∙ lead)
 
 -- ---- words that are right are judged so
 
@@ -87,7 +104,7 @@ pub record NameFound (l : List ℕ) (t m : ℕ) : Type 0 where
   pub found : takeUnsigned l ≡ taken.Value size number
   pub small : size < 2 ^ 32
   pub some : 0 < number
-  pub again : unsigned size ≡ take number l
+  pub again : Padded (take number l) (unsigned size)
   pub whole : t ≡ number + size
   pub inside : t ≤ length l
   pub says : text (take size (drop number l)) ≡ true
@@ -104,16 +121,15 @@ name-found l t m f e = go (takeUnsigned l) refl e
             → cond a (cond b (Fine (k + n) 2) (Bad (Text (offsetOf byte)) k)) (cut l) ≡ Fine t m → NameFound l t m
         test byte true true ha hb e =
             let et : k + n ≡ t = cc in
-            let o = taken-only u32 l n k f q in
             let i = taken-inside u32 l n k q in
             let j : k + n ≤ length l = leb-true _ _ ha in
             record {
               size = n;
               number = k;
               found = q;
-              small = o .1;
+              small = taken-small 128 l n k q;
               some = i .0;
-              again = sym (o .0);
+              again = padded-number u32 l n k f q;
               whole = sym et;
               inside = omega arith;
               says = hb;
@@ -130,7 +146,7 @@ pub record NameSeen (e : ℕ) (input xs : List ℕ) (b from t : ℕ) : Type 0 wh
   pub size : ℕ
   pub fills : fillName b xs from ≡ start ∷ size ∷ []
   pub right : NameRight (take e input) start size
-  pub again : name (take e input) start size ≡ take t (drop from xs)
+  pub again : Padded (take t (drop from xs)) (name (take e input) start size)
   pub says : chars (take e input) start size ≡ chars input start size
 
 module _ (e : ℕ) (input xs : List ℕ) (b : ℕ) (inp : drop b input ≡ xs) (fx : Bytes xs) where
@@ -158,7 +174,7 @@ module _ (e : ℕ) (input xs : List ℕ) (b : ℕ) (inp : drop b input ≡ xs) (
         size = n;
         fills = ap (λ r. (b + (from + sizeIn r)) ∷ valueIn r ∷ []) (r .found);
         right = record { inside = front-length (st + n) e input in₁ in₂; says = ap (λ l. text l) here ∙ r .says; small = r .small };
-        again = (λ i. r .again i ++ here i) ∙ sym (take-add k n l) ∙ ap (λ k. take k l) (sym et);
+        again = padded-by refl (padded-both (r .again) (padded-same here)) (sym (take-add k n l) ∙ ap (λ k. take k l) (sym et));
         says = part;
       }
 
@@ -192,13 +208,12 @@ module _ (e : ℕ) (input xs : List ℕ) (b : ℕ) (inp : drop b input ≡ xs) (
         sym e₂,
       )
 
-  -- its bytes, and what stands behind them
-  string-bytes : (at a′ : ℕ) (k : StringSeen at a′) (h : b + a′ ≤ e) (v : NameSeen e input xs b at (k .t))
-      → name (take e input) (v .start) (v .size) ++ drop a′ xs ≡ drop at xs
-  string-bytes at a′ k h v =
-      ap (λ l. l ++ drop a′ xs) (v .again)
-      ∙ ap (λ l. take (k .t) (drop at xs) ++ l) (ap (λ i. drop i xs) (k .place) ∙ sym (drop-drop (k .t) at xs))
-      ∙ take-append-drop (k .t) (drop at xs)
+  -- its bytes
+  string-bytes : (at a′ : ℕ) (k : StringSeen at a′) (v : NameSeen e input xs b at (k .t))
+      → Padded (part xs at a′) (name (take e input) (v .start) (v .size))
+  string-bytes at a′ k v =
+      let size : k .t ≡ a′ - at = omega (arith, k .place) in
+      padded-by refl (v .again) (ap (λ n. take n (drop at xs)) size)
 
   string-name : (at a′ : ℕ) (k : StringSeen at a′) → b + a′ ≤ e → NameSeen e input xs b at (k .t)
   string-name at a′ k h = let p = k .place in name-seen at (k .t) 2 (k .scanned) (omega arith)
@@ -212,7 +227,8 @@ module _ (e : ℕ) (input xs : List ℕ) (b : ℕ) (inp : drop b input ≡ xs) (
     pub right : Slot (take e input) w start size
     pub fills : fillSlot k b xs (Fine at due) ≡ w ∷ start ∷ size ∷ []
     pub count : due ≡ flag w + due′
-    pub again : slotOf (take e input) k w start size ++ drop a′ xs ≡ drop at xs
+    pub before : at ≤ a′
+    pub again : Padded (part xs at a′) (slotOf (take e input) k w start size)
     pub says : chars (take e input) start size ≡ chars input start size
 
   -- an option goes on, and stays inside
@@ -246,7 +262,8 @@ module _ (e : ℕ) (input xs : List ℕ) (b : ℕ) (inp : drop b input ≡ xs) (
             right = absent;
             fills = g;
             count = omega arith;
-            again = ap (λ i. drop i xs) p;
+            before = omega arith;
+            again = padded-same (let none : 0 ≡ a′ - at = omega arith in ap (λ n. take n (drop at xs)) none);
             says = refl;
           }
 
@@ -264,7 +281,10 @@ module _ (e : ℕ) (input xs : List ℕ) (b : ℕ) (inp : drop b input ≡ xs) (
             right = present (v .right);
             fills = simp (hx, hz) (ap (λ l. 1 ∷ l) (v .fills));
             count = omega arith;
-            again = ap (λ l. k ∷ l) (string-bytes (at + 1) a′ (y .0) h v) ∙ byte-and xs at k i (eqb-true _ _ hz);
+            before = omega (arith, y .0 .place);
+            again =
+                padded-by refl (padded-behind (k ∷ []) (string-bytes (at + 1) a′ (y .0) v))
+                (byte-and xs at a′ k i (omega (arith, y .0 .place)) (eqb-true _ _ hz));
             says = v .says;
           }
       there-is false hz hx i s = stays (cc) (cc) (simp (hx, hz))
@@ -281,19 +301,20 @@ module _ (e : ℕ) (input xs : List ℕ) (b : ℕ) (inp : drop b input ≡ xs) (
 
   -- ---- lead, name and count
 
-  pub record HeadSeen (h n : ℕ) : Type 0 where
+  pub record HeadSeen (g h n : ℕ) : Type 0 where
     pub start : ℕ
     pub size : ℕ
     pub fills : fillName b xs 1 ≡ start ∷ size ∷ []
     pub right : NameRight (take e input) start size
-    pub again : headOf n (name (take e input) start size) ++ drop h xs ≡ xs
+    pub again : Padded (part xs 0 h) (headOf n (name (take e input) start size))
     pub says : chars (take e input) start size ≡ chars input start size
+    pub clear : cond (eqb n 0) Clear (asks g 3 0) ≡ Clear
 
   record Counted (at h n : ℕ) : Type 0 where
     pub some : n ≡ 0 → ⊥
     pub before : at ≤ h
     pub inside : h ≤ length xs
-    pub again : n ∷ drop h xs ≡ drop at xs
+    pub again : Padded (part xs at h) (n ∷ [])
 
   count-seen : (at h n : ℕ) → countAt xs at ≡ Fine h n → Counted at h n
   unfolding countAt
@@ -311,19 +332,16 @@ module _ (e : ℕ) (input xs : List ℕ) (b : ℕ) (inp : drop b input ≡ xs) (
               let ec : c ≡ n = cc in
               let eh : at + k ≡ h = cc in
               let four = ltb-true c 4 hy in
-              let o = taken-only u32 l c k (bytes-behind xs at fx) q in
               let i = taken-inside u32 l c k q in
-              let one : c ∷ [] ≡ take k l = sym (one-byte 128 c (omega arith)) ∙ sym (o .0) in
+              let size : k ≡ h - at = omega arith in
               let nz = eqb-false c 0 hx in
               record {
                 some = λ z. nz (ec ∙ z);
                 before = omega arith;
                 inside = omega (arith, length-drop at xs, i);
                 again =
-                    ap (λ c. c ∷ drop h xs) (sym ec)
-                    ∙ ap (λ l. l ++ drop h xs) one
-                    ∙ ap (λ m. take k l ++ m) (ap (λ i. drop i xs) (sym eh) ∙ sym (drop-drop k at xs))
-                    ∙ take-append-drop k l;
+                    padded-by (ap (λ c. c ∷ []) (sym ec) ∙ sym (one-byte 128 c (omega arith)))
+                    (padded-number u32 l c k (bytes-behind xs at fx) q) (ap (λ n. take n l) size);
               }
           test false false hx hy s = impossible cc
       go taken.Cut q s = impossible cc
@@ -339,12 +357,12 @@ module _ (e : ℕ) (input xs : List ℕ) (b : ℕ) (inp : drop b input ≡ xs) (
           let o = onward-fine (stringAt xs 1 0) (λ at due. countAt xs at) h n (asked-fine g 3 0 _ h n s) in
           count-seen (o .0) h n (o .3) .inside
 
-  head-seen : (g h n : ℕ) → headScan g xs ≡ Fine h n → b + h ≤ e → HeadSeen h n
+  head-seen : (g h n : ℕ) → headScan g xs ≡ Fine h n → b + h ≤ e → HeadSeen g h n
   unfolding headScan
   head-seen g h n s le = let p = either-fine xs 0x00 _ 0x02 _ h n s in go (p .0) (p .1)
     where
       go : 0 < length xs
-          → Either (byte xs 0) 0x00 (stringAt xs 1 0) 0x02 (scans.asked g 3 0 (onward (stringAt xs 1 0) (λ at due. countAt xs at))) h n → HeadSeen h n
+          → Either (byte xs 0) 0x00 (stringAt xs 1 0) 0x02 (scans.asked g 3 0 (onward (stringAt xs 1 0) (λ at due. countAt xs at))) h n → HeadSeen g h n
       go i (first y s) =
           let k = string-seen 1 0 h n s in
           let v = string-name 1 h (k .0) le in
@@ -354,10 +372,10 @@ module _ (e : ℕ) (input xs : List ℕ) (b : ℕ) (inp : drop b input ≡ xs) (
             fills = v .fills;
             right = v .right;
             again =
-                ap (λ k. headOf k (name (take e input) (v .start) (v .size)) ++ drop h xs) (k .1)
-                ∙ ap (λ l. 0x00 ∷ l) (string-bytes 1 h (k .0) le v)
-                ∙ byte-and xs 0 0x00 i y;
+                padded-by (ap (λ k. headOf k (name (take e input) (v .start) (v .size))) (k .1))
+                (padded-behind (0x00 ∷ []) (string-bytes 1 h (k .0) v)) (byte-and xs 0 h 0x00 i (omega (arith, k .0 .place)) y);
             says = v .says;
+            clear = simp (k .1);
           }
       go i (second y d s) =
           let o = onward-fine (stringAt xs 1 0) (λ at due. countAt xs at) h n (asked-fine g 3 0 _ h n s) in
@@ -373,31 +391,54 @@ module _ (e : ℕ) (input xs : List ℕ) (b : ℕ) (inp : drop b input ≡ xs) (
             size = v .size;
             fills = v .fills;
             right = v .right;
-            again = head-again xs nm n h a (c .some) (c .again) (string-bytes 1 a (k .0) le′ v) (byte-and xs 0 0x02 i y);
+            again =
+                simp (ne-eqb n 0 (c .some))
+                (padded-by refl (padded-behind (0x02 ∷ []) (padded-both (string-bytes 1 a (k .0) v) (c .again)))
+                (ap (λ l. 0x02 ∷ l) (part-and xs 1 a h (omega (arith, k .0 .place)) lo)
+                ∙ byte-and xs 0 h 0x02 i (omega (arith, k .0 .place)) y));
             says = v .says;
+            clear = simp (ne-eqb n 0 (c .some)) (asked-clear g 3 0 _ h n s 0);
           }
 
   -- ---- the parts together
 
-  extern-parts : (g t m h n a₁ n₁ a₂ n₂ a₃ n₃ : ℕ) → headScan g xs ≡ Fine h n → firstScan g xs ≡ Fine a₁ n₁ → secondScan g xs ≡ Fine a₂ n₂
-      → HeadSeen h n → SlotSeen 0x00 h n a₁ n₁ → SlotSeen 0x01 a₁ n₁ a₂ n₂ → SlotSeen 0x02 a₂ n₂ a₃ n₃ → n₃ ≡ 0 → a₃ ≡ t → t ≤ length xs → m ≡ 11
-      → Only g (take e input) input field.ExternName xs t m b
-  unfolding fillExtern fillSlots externname slotsAt slotAt slots flaw bytes fill view wide
-  extern-parts g t m h n a₁ n₁ a₂ n₂ a₃ n₃ s₀ s₁ s₂ hd g₀ g₁ g₂ z et inside em =
+  extern-parts : (lead g t m h n a₁ n₁ a₂ n₂ a₃ n₃ : ℕ) → e < 2 ^ 32 → headScan g xs ≡ Fine h n → firstScan g xs ≡ Fine a₁ n₁ → secondScan g xs ≡ Fine a₂ n₂
+      → HeadSeen g h n → SlotSeen 0x00 h n a₁ n₁ → SlotSeen 0x01 a₁ n₁ a₂ n₂ → SlotSeen 0x02 a₂ n₂ a₃ n₃ → n₃ ≡ 0 → a₃ ≡ t → t ≤ length xs → m ≡ 11
+      → Only lead g (take e input) input field.ExternName xs t m b
+  unfolding fillExtern fillSlots externname slotsAt slotAt slots flaw bytes fill view wide mark said
+  extern-parts lead g t m h n a₁ n₁ a₂ n₂ a₃ n₃ few s₀ s₁ s₂ hd g₀ g₁ g₂ z et inside em =
       let f₀ = ap (λ l. fillSlot 0x00 b xs l) s₀ ∙ g₀ .fills in
       let f₁ = ap (λ l. fillSlot 0x01 b xs l) s₁ ∙ g₁ .fills in
       let f₂ = ap (λ l. fillSlot 0x02 b xs l) s₂ ∙ g₂ .fills in
       only-words words (λ i. hd .fills i ++ (f₀ i ++ (f₁ i ++ f₂ i))) refl em inside right again
       (λ more i. (hd .size ∷ hd .says i)
       ++ ((g₀ .w ∷ g₀ .size ∷ g₀ .says i) ++ ((g₁ .w ∷ g₁ .size ∷ g₁ .says i) ++ (g₂ .w ∷ g₂ .size ∷ g₂ .says i))))
+      (λ more i. Name (hd .size) (hd .says i)
+      ∷ Word (g₀ .w) ∷ Name (g₀ .size) (g₀ .says i) ∷ Word (g₁ .w) ∷ Name (g₁ .size) (g₁ .says i) ∷ Word (g₂ .w) ∷ Name (g₂ .size) (g₂ .says i) ∷ [])
+      small (λ more. ap (λ k. cond (eqb k 0) Clear (asks g 3 0)) count ∙ hd .clear)
     where
       pool : List ℕ
       pool = take e input
 
+      w₀ : List ℕ
+      w₀ = g₀ .w ∷ g₀ .start ∷ g₀ .size ∷ []
+
+      w₁ : List ℕ
+      w₁ = g₁ .w ∷ g₁ .start ∷ g₁ .size ∷ []
+
+      w₂ : List ℕ
+      w₂ = g₂ .w ∷ g₂ .start ∷ g₂ .size ∷ []
+
       words : List ℕ
-      words =
-          (hd .start ∷ hd .size ∷ [])
-          ++ ((g₀ .w ∷ g₀ .start ∷ g₀ .size ∷ []) ++ ((g₁ .w ∷ g₁ .start ∷ g₁ .size ∷ []) ++ (g₂ .w ∷ g₂ .start ∷ g₂ .size ∷ [])))
+      words = (hd .start ∷ hd .size ∷ []) ++ (w₀ ++ (w₁ ++ w₂))
+
+      short : length pool < 2 ^ 32
+      short = omega (arith, length-take e input)
+
+      small : Words words
+      small =
+          words-and (hd .start ∷ hd .size ∷ []) (w₀ ++ (w₁ ++ w₂)) (name-words short (hd .right))
+          (words-and w₀ (w₁ ++ w₂) (slot-words short (g₀ .right)) (words-and w₁ w₂ (slot-words short (g₁ .right)) (slot-words short (g₂ .right))))
 
       right : (more : List ℕ) → flaw pool field.ExternName (words ++ more) ≡ Right
       right more =
@@ -432,26 +473,20 @@ module _ (e : ℕ) (input xs : List ℕ) (b : ℕ) (inp : drop b input ≡ xs) (
           let d = no-slot (g₂ .w) (0x02 ∷ name pool (g₂ .start) (g₂ .size)) (omega arith) in
           λ i. a i ++ (c i ++ d i)
 
-      options : (o₀ ++ (o₁ ++ o₂)) ++ drop t xs ≡ drop h xs
+      options : Padded (part xs h a₃) (o₀ ++ (o₁ ++ o₂))
       options =
-          append-assoc o₀ (o₁ ++ o₂) (drop t xs)
-          ∙ ap (λ l. o₀ ++ l)
-          (append-assoc o₁ o₂ (drop t xs)
-          ∙ ap (λ l. o₁ ++ l) (ap (λ i. o₂ ++ drop i xs) (sym et) ∙ g₂ .again)
-          ∙ g₁ .again)
-          ∙ g₀ .again
+          let k₀ = g₀ .before in
+          let k₁ = g₁ .before in
+          let k₂ = g₂ .before in
+          padded-by refl (padded-both (g₀ .again) (padded-both (g₁ .again) (g₂ .again)))
+          (ap (λ l. part xs h a₁ ++ l) (part-and xs a₁ a₂ a₃ k₁ k₂) ∙ part-and xs h a₁ a₃ k₀ (omega arith))
 
-      again : (more : List ℕ) → bytes pool field.ExternName (words ++ more) ≡ take t xs
+      again : (more : List ℕ) → Padded (take t xs) (bytes pool field.ExternName (words ++ more))
       again more =
-          let bs = externname pool (words ++ more) in
-          let all : bs ++ drop t xs ≡ xs =
-          ap (λ l. l ++ drop t xs) (head-and-slots many nm (o₀ ++ (o₁ ++ o₂)) empty)
-          ∙ append-assoc (headOf many nm) (o₀ ++ (o₁ ++ o₂)) (drop t xs)
-          ∙ ap (λ l. headOf many nm ++ l) options
-          ∙ ap (λ k. headOf k nm ++ drop h xs) count
-          ∙ hd .again in
-          let long : length bs ≡ t = omega (arith, ap length all, length-append bs (drop t xs), length-drop t xs) in
-          sym (take-at bs (drop t xs) t long) ∙ ap (λ l. take t l) all
+          let after : h ≤ a₃ = omega (arith, g₀ .before, g₁ .before, g₂ .before) in
+          let all : a₃ - 0 ≡ t = omega arith in
+          padded-by (head-and-slots many nm (o₀ ++ (o₁ ++ o₂)) empty ∙ ap (λ k. headOf k nm ++ (o₀ ++ (o₁ ++ o₂))) count)
+          (padded-both (hd .again) options) (part-and xs 0 h a₃ (omega arith) after ∙ ap (λ n. take n xs) all)
 
 -- ---- the whole
 
@@ -463,10 +498,10 @@ end-fine xs at due t m s = go (eqb due 0) refl s
     go true h s = (eqb-true _ _ h, (cc), (cc))
     go false h s = let p = there-fine xs at (Bad Code at) t m s .1 in impossible cc
 
-pub extern-only : (g e : ℕ) (input : List ℕ) (b t m : ℕ) → Bytes (drop b input) → scanExtern g (drop b input) ≡ Fine t m → b + t ≤ e
-    → Only g (take e input) input field.ExternName (drop b input) t m b
+pub extern-only : (lead g e : ℕ) (input : List ℕ) (b t m : ℕ) → e < 2 ^ 32 → Bytes (drop b input) → scanExtern g (drop b input) ≡ Fine t m → b + t ≤ e
+    → Only lead g (take e input) input field.ExternName (drop b input) t m b
 unfolding scanExtern firstScan secondScan
-extern-only g e input b t m fx s le =
+extern-only lead g e input b t m few fx s le =
     let xs = drop b input in
     let k₃ = onward-fine (onward (secondScan g xs) (slotScan 0x02 xs)) (endScan xs) t m s in
     let k₂ = onward-fine (secondScan g xs) (slotScan 0x02 xs) (k₃ .0) (k₃ .1) (k₃ .2) in
@@ -486,5 +521,5 @@ extern-only g e input b t m fx s le =
     let g₀ = slot-seen e input xs b refl fx 0x00 (k₀ .0) (k₀ .1) (k₁ .0) (k₁ .1) (k₀ .3) (omega arith) in
     let g₁ = slot-seen e input xs b refl fx 0x01 (k₁ .0) (k₁ .1) (k₂ .0) (k₂ .1) (k₁ .3) (omega arith) in
     let g₂ = slot-seen e input xs b refl fx 0x02 (k₂ .0) (k₂ .1) (k₃ .0) (k₃ .1) (k₂ .3) (omega arith) in
-    extern-parts e input xs b refl fx g t m (k₀ .0) (k₀ .1) (k₁ .0) (k₁ .1) (k₂ .0) (k₂ .1) (k₃ .0) (k₃ .1) (k₀ .2) (k₁ .2) (k₂ .2)
+    extern-parts e input xs b refl fx lead g t m (k₀ .0) (k₀ .1) (k₁ .0) (k₁ .1) (k₂ .0) (k₂ .1) (k₃ .0) (k₃ .1) few (k₀ .2) (k₁ .2) (k₂ .2)
     hd g₀ g₁ g₂ f₀ f₁ (omega arith) (f .2)

@@ -1,5 +1,5 @@
--- Reading a whole item: what its section takes is read back, or refused at the first byte above the grade; and what is accepted,
--- written again beside its own bytes, is these bytes.
+-- Reading a whole item: what its section takes is read back, or refused at the first byte above the grade; and what is accepted is
+-- written again beside its own bytes, with each number in its shortest form, and has no byte above the grade.
 use Prim.Native.Nat.{ℕ, _+_, _^_, _≤_, _<_}
 use native.Mathlib.Omega.{arith}
 use mathlib.Core.Path.{_≡_, refl, sym, ap, _∙_, subst}
@@ -21,18 +21,21 @@ use Rattle.fields.specs.declared.Shape.{Shape}
 use Rattle.fields.specs.Words.{word, Words, wide}
 use Rattle.writing.specs.Binary.{bytes}
 use Rattle.writing.specs.Judge.{flaw, unless, judge}
-use Rattle.round_trip.specs.Mark.{Mark, Clear, At, firstMark, rowMark, SameFields}
+use Rattle.round_trip.specs.Padded.{Padded}
+use Rattle.round_trip.proofs.PaddedLaws.{padded-by, padded-again}
+use Rattle.round_trip.specs.Mark.{Mark, Clear, At, firstMark, rowMark, SameFields, SameItem}
 use Rattle.round_trip.specs.inside.Width.{planWidth}
 use Rattle.fields.specs.Answers.{leftRow}
 use Rattle.reading.specs.Read.{reader, scanned, filled, roomed, readItem}
-use Rattle.writing.specs.Row.{measuredRow, rowBytes, writeRow}
+use Rattle.writing.specs.Row.{measuredRow, rowBytes}
 use Rattle.fields.specs.Shape.{plan}
 use Rattle.fields.specs.View.{view}
 use Rattle.fields.specs.Walk.{Plan, end, step, next, walk, outs}
-use Rattle.writing.specs.Write.{writer, judged, written, stored}
+use Rattle.writing.specs.Write.{writer, judged, written}
 use Rattle.writing.proofs.AnswerLaws.{Sized}
 use Rattle.round_trip.proofs.Back.{Reaches, Got, Retells}
 use Rattle.round_trip.proofs.ReadLaws.{shape-back, shape-only}
+use Rattle.round_trip.proofs.SameBytes.{same-bytes}
 use Rattle.writing.proofs.WholeLaws.{accepted, sized-accepted, judged-ends, size-is-length, reaches-end}
 use Rattle.reading.proofs.TakenLaws.{taken}
 use Rattle.numbers.proofs.Impossible.{impossible}
@@ -147,40 +150,74 @@ found-back Not lead g row pool m fw e rest input room q any top short some =
 
 -- ---- what is accepted is written again
 
--- what is accepted and took at most 65,536 bytes, written again beside these bytes, is these bytes
-pub item-only : (found : Found) (kind lead g : ℕ) (input room after : List ℕ) (q e : ℕ) → Bytes input
+-- a row that was read at a grade, and the bytes that were taken: the writer accepts it, those bytes as the pool, and writes it again
+pub record WrittenAgain (found : Found) (lead g : ℕ) (input taken row : List ℕ) : Type 0 where
+  pub small : Words row
+  pub clear : rowMark found lead g taken row ≡ Clear
+  pub accepts : measuredRow found row taken ≡ Size (length (rowBytes found taken row))
+  pub again : Padded taken (rowBytes found taken row)
+  -- as the bytes of any row that is the same item
+  pub same : (s : Shape) → found ≡ Is s → (pool other : List ℕ) (m : ℕ) → measuredRow found other pool ≡ Size m → SameItem s pool other input row
+      → rowBytes found taken row ≡ rowBytes found pool other
+
+-- words that are judged right beside a pool, and say what a row that is taken says, are written as that row
+same-written : (s : Shape) (pool row : List ℕ) (m : ℕ) → measuredRow (Is s) row pool ≡ Size m
+    → (pool′ ws : List ℕ) (q n : ℕ) → judged s pool′ ws 1 ≡ Fine q n → SameFields pool pool′ (plan s) (drop 1 row) (drop 1 ws)
+    → written s pool′ ws 1 ≡ written s pool row 1
+same-written s pool row m a pool′ ws q n j same =
+    let k = accepted (Is s) row pool m a in
+    let here : k .shape ≡ s = cc (k .is) in
+    let sized : Sized s row 1 pool m = subst (λ t. Sized t row 1 pool m) here (k .sized) in
+    same-bytes pool pool′ (plan s) (drop 1 row) (drop 1 ws) 1 0 1 0 (subst Reaches (sym (sized .judges)) tt) (subst Reaches (sym j) tt) same
+
+-- what is accepted and took at most 65,536 bytes
+pub item-only : (found : Found) (kind lead g : ℕ) (input room after : List ℕ) (q e : ℕ) → Bytes input → 1 ≤ g → kind < 2 ^ 32
     → readItem found kind lead g input room ≡ leftRow (Item q e) after → e ≤ 65536
-    → (word (take q after) 0 ≡ kind)
-    × (measuredRow found (take q after) (take e input) ≡ Size e)
-    × (rowBytes found (take e input) (take q after) ≡ take e input)
-unfolding rowBytes
-item-only found kind lead g input room after q e fi r small =
+    → (word (take q after) 0 ≡ kind) × WrittenAgain found lead g input (take e input) (take q after)
+unfolding rowBytes rowMark
+item-only found kind lead g input room after q e fi any known r few =
     let t = taken kind lead g input room after q e found r in
     let s = t .shape in
     let pool = take e input in
     let ws = filled kind lead g s input in
-    let o = shape-only kind lead g s input e q fi (t .ends) in
-    let long : length ws ≡ q = o .0 in
+    let o = shape-only kind lead g s input e q fi any (omega arith) known (t .ends) in
+    let long : length ws ≡ q = o .long in
     let inside : 0 + length ws ≤ length room = omega (arith, t .fits) in
     let back : take q after ≡ ws = (λ i. take (sym long i) (t .leaves i)) ∙ sets-back ws room 0 inside in
-    let k : Sized s ws 1 pool e =
+    let n = length (written s pool ws 1) in
+    let k : Sized s ws 1 pool n =
     record {
-      width = sym (judged-ends s pool ws 1 q e (o .1)) ∙ sym long;
+      width = sym (judged-ends s pool ws 1 q n (o .judges)) ∙ sym long;
       short = omega (arith, t .short);
       small = omega (arith, length-take e input);
       end = q;
-      judges = o .1;
-    } in (
+      judges = o .judges;
+    } in
+    let is : rowBytes found pool (take q after) ≡ written s pool ws 1 = λ i. rowBytes (t .is i) pool (back i) in (
       ap (λ l. word l 0) back,
-      (λ i. measuredRow (t .is i) (back i) pool) ∙ sized-accepted s ws pool e k (omega arith),
-      (λ i. rowBytes (t .is i) pool (back i)) ∙ o .2,
+      record {
+        small = subst Words (sym back) (o .small);
+        clear = (λ i. rowMark (t .is i) lead g pool (back i)) ∙ o .clear;
+        accepts =
+            (λ i. measuredRow (t .is i) (back i) pool) ∙ sized-accepted s ws pool n k (omega (arith, padded-again (o .again) .no-more, length-take e input))
+            ∙ ap (λ l. Size (length l)) (sym is);
+        again = padded-by is (o .again) refl;
+        same = λ s′ is′ pool′ other m a same.
+            let here : s ≡ s′ = let f = sym (t .is) ∙ is′ in cc in
+            let sized = subst (λ f. measuredRow f other pool′ ≡ Size m) is′ a in
+            is ∙ ap (λ x. written x pool ws 1) here ∙ same-written s′ pool′ other m sized pool ws q n (subst (λ x. judged x pool ws 1 ≡ Fine q n) here (o .judges))
+            (subst (λ x. SameFields pool′ pool (plan x) (drop 1 other) (drop 1 ws)) here
+            (o .tells pool′ (drop 1 other)
+            (subst (λ x. SameFields pool′ input (plan x) (drop 1 other) (drop 1 ws)) (sym here)
+            (subst (λ l. SameFields pool′ input (plan s′) (drop 1 other) (drop 1 l)) back (same .says)))))
+            ∙ ap (λ f. rowBytes f pool′ other) (sym is′);
+      },
     )
 
--- so the row that is read, whose kind finds its shape again, is written as these bytes
-pub written-again : (find : ℕ → Found) (kind lead g : ℕ) (input room after : List ℕ) (q e : ℕ) → Bytes input
-    → readItem (find kind) kind lead g input room ≡ leftRow (Item q e) after → e ≤ 65536 → (out : List ℕ) (at : ℕ)
-    → writeRow (find (word (take q after) 0)) (take q after) (take e input) out at ≡ stored (Size e) (take e input) out at
-unfolding writeRow
-written-again find kind lead g input room after q e fi r small out at =
-    let o = item-only (find kind) kind lead g input room after q e fi r small in
-    rw (o .0) (λ i. stored (o .1 i) (o .2 i) out at)
+-- so the row that is read, whose kind finds its shape again, is written again
+pub written-again : (find : ℕ → Found) (lead : ℕ → ℕ) (kind g : ℕ) (input room after : List ℕ) (q e : ℕ) → Bytes input → 1 ≤ g → kind < 2 ^ 32
+    → readItem (find kind) kind (lead kind) g input room ≡ leftRow (Item q e) after → e ≤ 65536
+    → WrittenAgain (find (word (take q after) 0)) (lead (word (take q after) 0)) g input (take e input) (take q after)
+written-again find lead kind g input room after q e fi any known r few =
+    let o = item-only (find kind) kind (lead kind) g input room after q e fi any known r few in
+    subst (λ k. WrittenAgain (find k) (lead k) g input (take e input) (take q after)) (sym (o .0)) (o .1)

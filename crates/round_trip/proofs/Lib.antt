@@ -3,7 +3,10 @@ pub mod ExternBack
 pub mod ExternOnly
 pub mod FieldBack
 pub mod FieldOnly
+pub mod GradeOnly
 pub mod ItemLaws
 pub mod Only
+pub mod PaddedLaws
 pub mod ReadLaws
+pub mod SameBytes
 pub mod ScanOnly

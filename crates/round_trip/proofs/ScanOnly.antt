@@ -1,4 +1,5 @@
--- What the bytes are that a reader accepts: the words that are made of them are right, and their bytes are those that were taken.
+-- What the bytes are that a reader accepts: the words that are made of them are right, and their bytes are those that were taken, with
+-- each number in its shortest form.
 use Prim.Native.Nat.{ℕ, zero, suc, _+_, _-_, _^_, _≤_, _<_}
 use native.Mathlib.Omega.{arith}
 use mathlib.Core.Path.{_≡_, refl, sym, ap, _∙_}
@@ -13,7 +14,8 @@ use Rattle.numbers.specs.declared.leb.Taken.the-variants as taken
 use Rattle.numbers.specs.Bytes.{Bytes}
 use Rattle.numbers.specs.Integers.{u32, s33}
 use Rattle.numbers.specs.Leb.{unsigned, takeUnsigned, takeSigned}
-use Rattle.numbers.proofs.LebLaws.{taken-only, taken-inside, one-byte}
+use Rattle.numbers.proofs.ExactLaws.{taken-small}
+use Rattle.numbers.proofs.LebLaws.{taken-inside, one-byte}
 use Rattle.fields.specs.declared.Flaw.the-variants.{Right}
 use Rattle.fields.specs.declared.Refusal.the-variants.{Code, Newer}
 use Rattle.fields.specs.declared.Leaf.{Leaf}
@@ -23,6 +25,8 @@ use Rattle.fields.specs.Words.{indexed}
 use Rattle.reading.specs.Fill.{index, valueIn, primitive, fillValue, fillOptional, fillReference, fillSortIndex}
 use Rattle.writing.specs.Judge.{below, value, optionalValue, optionalIndex, choice, reference}
 use Rattle.reading.specs.Scan.{byte, cut, there, asked, past, numbered, either, zeroAt, scanIndex, scanPrimitive, scanValue, scanOptional, scanResult, scanChoice, scanBound, scanModule, three, scanReference, scanEither, scanOptionalIndex, scanArgument, scanCoreSortIndex, scanSortIndex}
+use Rattle.round_trip.specs.Padded.{Padded}
+use Rattle.round_trip.proofs.PaddedLaws.{padded-same, padded-by, padded-behind, padded-number}
 use Rattle.round_trip.proofs.FieldBack.{Valued, primed, typed, Optioned, none, some, not-two, Bit, off, on, Primed, old, new, Present, absent, present, Chosen, with, bare, Referred, core, valued, equal, fresh, other, one-more}
 use Rattle.numbers.proofs.Impossible.{impossible}
 
@@ -75,13 +79,27 @@ front-two (y ∷ z ∷ ys) n h = let two : 2 + n ≡ suc (suc n) = omega arith i
 pub bytes-behind : (xs : List ℕ) (k : ℕ) → Bytes xs → Bytes (drop k xs)
 bytes-behind xs k f i = rw (getD-drop k xs i 0) (f (k + i))
 
+-- what was written behind a byte that was taken, and behind two
+lead-padded : (xs : List ℕ) (y k t : ℕ) {v : List ℕ} → byte xs 0 ≡ y → 0 < length xs → t ≡ 1 + k → Padded (take k (drop 1 xs)) v
+    → Padded (take t xs) (y ∷ v)
+lead-padded xs y k t e h et a =
+    padded-by refl (padded-behind (y ∷ []) a) (ap (λ n. n ∷ take k (drop 1 xs)) (sym e) ∙ sym (front xs k h) ∙ ap (λ n. take n xs) (sym et))
+
+leads-padded : (xs : List ℕ) (y z k t : ℕ) {v : List ℕ} → byte xs 0 ≡ y → byte xs 1 ≡ z → 1 < length xs → t ≡ 2 + k
+    → Padded (take k (drop 2 xs)) v → Padded (take t xs) (y ∷ z ∷ v)
+leads-padded xs y z k t ey ez h et a =
+    let ey′ = sym ey in
+    let ez′ = sym ez in
+    padded-by refl (padded-behind (y ∷ z ∷ []) a)
+    ((λ i. ey′ i ∷ ez′ i ∷ take k (drop 2 xs)) ∙ sym (front-two xs k h) ∙ ap (λ n. take n xs) (sym et))
+
 -- ---- an index
 
 pub record IndexSeen (xs : List ℕ) (n t m : ℕ) : Type 0 where
   pub x : ℕ
   pub small : x < 2 ^ 32
   pub reads : index xs ≡ x
-  pub again : unsigned x ≡ take t xs
+  pub again : Padded (take t xs) (unsigned x)
   pub inside : t ≤ length xs
   pub makes : m ≡ n
 
@@ -93,8 +111,7 @@ index-seen xs n t m f e = go (takeUnsigned xs) refl e
     go (taken.Value x a) q e =
         let et : a ≡ t = cc in
         let q′ : takeUnsigned xs ≡ taken.Value x t = q ∙ ap (λ k. taken.Value x k) et in
-        let o = taken-only u32 xs x t f q′ in
-        record { x = x; small = o .1; reads = ap valueIn q; again = sym (o .0); inside = taken-inside u32 xs x t q′ .2; makes = cc }
+        record { x = x; small = taken-small 128 xs x t q′; reads = ap valueIn q; again = padded-number u32 xs x t f q′; inside = taken-inside u32 xs x t q′ .2; makes = cc }
     go taken.Cut q e = impossible cc
     go taken.Bad q e = impossible cc
 
@@ -134,7 +151,7 @@ pub record PairSeen (R : ℕ → ℕ → Type 0) (E : ℕ → ℕ → List ℕ) 
   pub b : ℕ
   pub right : R a b
   pub fills : words ≡ a ∷ b ∷ []
-  pub again : E a b ≡ take t xs
+  pub again : Padded (take t xs) (E a b)
   pub inside : t ≤ length xs
   pub makes : m ≡ 2
 
@@ -151,13 +168,12 @@ value-seen g xs t m f e =
     number (taken.Value x a) q e =
         let et : a ≡ t = cc in
         let q′ : takeSigned xs ≡ taken.Value x t = q ∙ ap (λ k. taken.Value x k) et in
-        let o = taken-only s33 xs x t f q′ in
         record {
           a = 1;
           b = x;
-          right = typed (o .1);
+          right = typed (taken-small 64 xs x t q′);
           fills = ap (λ r. 1 ∷ valueIn r ∷ []) q;
-          again = sym (o .0);
+          again = padded-number s33 xs x t f q′;
           inside = taken-inside s33 xs x t q′ .2;
           makes = cc;
         }
@@ -176,7 +192,7 @@ value-seen g xs t m f e =
           b = y;
           right = typed small;
           fills = refl;
-          again = one-byte 64 y low ∙ sym (front xs 0 h) ∙ ap (λ k. take k xs) et;
+          again = padded-same (one-byte 64 y low ∙ sym (front xs 0 h) ∙ ap (λ k. take k xs) et);
           inside = omega arith;
           makes = cc;
         }
@@ -188,7 +204,7 @@ value-seen g xs t m f e =
           b = s .p;
           right = primed (s .right);
           fills = ap (λ n. 0 ∷ n ∷ []) (s .reads);
-          again = ap (λ n. n ∷ []) (s .again) ∙ sym (front xs 0 h) ∙ ap (λ k. take k xs) (sym et);
+          again = padded-same (ap (λ n. n ∷ []) (s .again) ∙ sym (front xs 0 h) ∙ ap (λ k. take k xs) (sym et));
           inside = omega arith;
           makes = s .makes;
         }
@@ -200,7 +216,7 @@ module _ (g : ℕ) (xs : List ℕ) (t m : ℕ) (f : Bytes xs) where
       → PairSeen Optioned E words xs t m
   nothing E n w h e words q =
       let et : n ≡ t = cc in
-      record { a = 2; b = 0; right = none; fills = q; again = w ∙ ap (λ k. take k xs) et; inside = omega arith; makes = cc }
+      record { a = 2; b = 0; right = none; fills = q; again = padded-same (w ∙ ap (λ k. take k xs) et); inside = omega arith; makes = cc }
 
   -- a value behind the byte y
   something : (E : ℕ → ℕ → List ℕ) (y : ℕ) → byte xs 0 ≡ y → 0 < length xs → ((k x : ℕ) → Valued k x → E k x ≡ y ∷ valtype k x)
@@ -210,15 +226,13 @@ module _ (g : ℕ) (xs : List ℕ) (t m : ℕ) (f : Bytes xs) where
       let a = p .0 in
       let s = value-seen g (drop 1 xs) a m (bytes-behind xs 1 f) (p .1) in
       let i = s .inside in
-      let et : t ≡ 1 + a = p .2 in
-      let lead = sym ey in
       record {
         a = s .a;
         b = s .b;
         right = some (s .right);
         fills = q ∙ s .fills;
-        again = w (s .a) (s .b) (s .right) ∙ (λ i. lead i ∷ s .again i) ∙ sym (front xs a h) ∙ ap (λ k. take k xs) (sym et);
-        inside = omega (arith, length-drop 1 xs);
+        again = padded-by (w (s .a) (s .b) (s .right)) (lead-padded xs y a t ey h (p .2) (s .again)) refl;
+        inside = omega (arith, length-drop 1 xs, p .2);
         makes = s .makes;
       }
 
@@ -265,7 +279,7 @@ module _ (g : ℕ) (xs : List ℕ) (t m : ℕ) (f : Bytes xs) where
             b = 0;
             right = absent;
             fills = simp y;
-            again = ap (λ n. n ∷ []) (sym y) ∙ sym (front xs 0 h) ∙ ap (λ k. take k xs) et;
+            again = padded-same (ap (λ n. n ∷ []) (sym y) ∙ sym (front xs 0 h) ∙ ap (λ k. take k xs) et);
             inside = omega arith;
             makes = cc;
           }
@@ -275,13 +289,12 @@ module _ (g : ℕ) (xs : List ℕ) (t m : ℕ) (f : Bytes xs) where
           let s = index-seen (drop 1 xs) 2 a m (bytes-behind xs 1 f) (p .1) in
           let i = s .inside in
           let et : t ≡ 1 + a = p .2 in
-          let o = sym y in
           record {
             a = 1;
             b = s .x;
             right = present (s .small);
             fills = simp y (ap (λ n. 1 ∷ n ∷ []) (s .reads));
-            again = (λ i. o i ∷ s .again i) ∙ sym (front xs a h) ∙ ap (λ k. take k xs) (sym et);
+            again = lead-padded xs 0x01 a t y h et (s .again);
             inside = omega (arith, length-drop 1 xs);
             makes = s .makes;
           }
@@ -307,7 +320,7 @@ module _ (g : ℕ) (xs : List ℕ) (t m : ℕ) (f : Bytes xs) where
             b = s .x;
             right = with (ltb-true _ _ hx) hy (s .small);
             fills = ap (λ n. byte xs 0 ∷ n ∷ []) (s .reads);
-            again = simp hy (ap (λ l. byte xs 0 ∷ l) (s .again) ∙ sym (front xs a h) ∙ ap (λ k. take k xs) (sym et));
+            again = simp hy (lead-padded xs (byte xs 0) a t refl h et (s .again));
             inside = omega (arith, length-drop 1 xs);
             makes = s .makes;
           }
@@ -318,7 +331,7 @@ module _ (g : ℕ) (xs : List ℕ) (t m : ℕ) (f : Bytes xs) where
             b = 0;
             right = bare (ltb-true _ _ hx) hy;
             fills = refl;
-            again = simp hy (sym (front xs 0 h) ∙ ap (λ k. take k xs) et);
+            again = simp hy (padded-same (sym (front xs 0 h) ∙ ap (λ k. take k xs) et));
             inside = omega arith;
             makes = cc;
           }
@@ -369,7 +382,7 @@ pub record ReferenceSeen (xs : List ℕ) (t m : ℕ) : Type 0 where
   pub y : ℕ
   pub right : Referred s x y
   pub fills : fillReference xs ≡ s ∷ x ∷ y ∷ []
-  pub again : externdesc s x y ≡ take t xs
+  pub again : Padded (take t xs) (externdesc s x y)
   pub inside : t ≤ length xs
   pub makes : m ≡ 3
 
@@ -382,7 +395,7 @@ record BehindTwo (n : ℕ) (xs : List ℕ) (a b t m : ℕ) : Type 0 where
   pub x : ℕ
   pub small : x < 2 ^ 32
   pub reads : index (drop 2 xs) ≡ x
-  pub again : a ∷ b ∷ unsigned x ≡ take t xs
+  pub again : Padded (take t xs) (a ∷ b ∷ unsigned x)
   pub inside : t ≤ length xs
   pub makes : m ≡ n
 
@@ -394,13 +407,11 @@ behind-two n xs a b t m f h ea eb e =
     let s = index-seen (drop 2 xs) n k m (bytes-behind xs 2 f) (p .1) in
     let i = s .inside in
     let et : t ≡ 2 + k = p .2 in
-    let ea′ = sym ea in
-    let eb′ = sym eb in
     record {
       x = s .x;
       small = s .small;
       reads = s .reads;
-      again = (λ i. ea′ i ∷ eb′ i ∷ s .again i) ∙ sym (front-two xs k h) ∙ ap (λ k. take k xs) (sym et);
+      again = leads-padded xs a b k t ea eb h et (s .again);
       inside = omega (arith, length-drop 2 xs);
       makes = s .makes;
     }
@@ -457,7 +468,7 @@ reference-seen g xs t m f e =
           y = 0;
           right = fresh;
           fills = simp (z, p);
-          again = (λ i. z′ i ∷ o′ i ∷ []) ∙ sym (front-two xs 0 h) ∙ ap (λ k. take k xs) et;
+          again = padded-same ((λ i. z′ i ∷ o′ i ∷ []) ∙ sym (front-two xs 0 h) ∙ ap (λ k. take k xs) et);
           inside = omega arith;
           makes = cc;
         }
@@ -478,14 +489,13 @@ reference-seen g xs t m f e =
         let i = v .inside in
         let et : t ≡ 1 + a = q .2 in
         let z = eqb-true y₀ 2 hb in
-        let z′ = sym z in
         record {
           s = 2;
           x = v .a;
           y = v .b;
           right = valued (v .right);
           fills = simp z (ap (λ l. 2 ∷ l) (v .fills));
-          again = (λ i. z′ i ∷ v .again i) ∙ sym (front xs a h) ∙ ap (λ k. take k xs) (sym et);
+          again = lead-padded xs 2 a t z h et (v .again);
           inside = omega (arith, length-drop 1 xs);
           makes = p .2;
         }
@@ -504,7 +514,7 @@ reference-seen g xs t m f e =
           y = 0;
           right = other ha hb hc (ltb-true _ _ hd) (s .small);
           fills = simp (ha, hb, hc) (ap (λ n. y₀ ∷ n ∷ 0 ∷ []) (s .reads));
-          again = simp (ha, hb, hc) (ap (λ l. y₀ ∷ l) (s .again) ∙ sym (front xs a h) ∙ ap (λ k. take k xs) (sym et));
+          again = simp (ha, hb, hc) (lead-padded xs y₀ a t refl h et (s .again));
           inside = omega (arith, length-drop 1 xs);
           makes = s .makes;
         }
@@ -517,7 +527,7 @@ record BehindOne (n : ℕ) (xs : List ℕ) (t m : ℕ) : Type 0 where
   pub x : ℕ
   pub small : x < 2 ^ 32
   pub reads : index (drop 1 xs) ≡ x
-  pub again : byte xs 0 ∷ unsigned x ≡ take t xs
+  pub again : Padded (take t xs) (byte xs 0 ∷ unsigned x)
   pub inside : t ≤ length xs
   pub makes : m ≡ n
 
@@ -532,15 +542,16 @@ behind-one n xs t m f h e =
       x = s .x;
       small = s .small;
       reads = s .reads;
-      again = ap (λ l. byte xs 0 ∷ l) (s .again) ∙ sym (front xs k h) ∙ ap (λ k. take k xs) (sym et);
+      again = lead-padded xs (byte xs 0) k t refl h et (s .again);
       inside = omega (arith, length-drop 1 xs);
       makes = s .makes;
     }
 
 pub record ArgumentSeen (xs : List ℕ) (t m : ℕ) : Type 0 where
   pub x : ℕ
+  pub small : x < 2 ^ 32
   pub reads : index (drop 1 xs) ≡ x
-  pub again : argument x ≡ take t xs
+  pub again : Padded (take t xs) (argument x)
   pub inside : t ≤ length xs
   pub makes : m ≡ 1
 
@@ -552,7 +563,7 @@ argument-seen xs t m f e = let p = there-fine xs 0 _ t m e in go (eqb (byte xs 0
     go true q h e =
         let k = behind-one 1 xs t m f h e in
         let z = sym (eqb-true (byte xs 0) 0x12 q) in
-        record { x = k .x; reads = k .reads; again = (λ i. z i ∷ unsigned (k .x)) ∙ k .again; inside = k .inside; makes = k .makes }
+        record { x = k .x; small = k .small; reads = k .reads; again = padded-by (ap (λ n. n ∷ unsigned (k .x)) z) (k .again) refl; inside = k .inside; makes = k .makes }
     go false q h e = impossible cc
 
 -- a sort below n and an index, of bytes E
@@ -560,8 +571,9 @@ pub record SortSeen (n : ℕ) (E : ℕ → ℕ → List ℕ) (words xs : List �
   pub s : ℕ
   pub x : ℕ
   pub right : s < n
+  pub small : x < 2 ^ 32
   pub fills : words ≡ s ∷ x ∷ []
-  pub again : E s x ≡ take t xs
+  pub again : Padded (take t xs) (E s x)
   pub inside : t ≤ length xs
   pub makes : m ≡ 2
 
@@ -578,6 +590,7 @@ core-sort-seen xs t m f e = let p = there-fine xs 0 _ t m e in go (ltb (byte xs 
           s = byte xs 0;
           x = k .x;
           right = ltb-true _ _ q;
+          small = k .small;
           fills = ap (λ n. byte xs 0 ∷ n ∷ []) (k .reads);
           again = k .again;
           inside = k .inside;
@@ -597,6 +610,7 @@ sort-seen xs t m f e = let p = there-fine xs 0 _ t m e in go (eqb (byte xs 0) 0)
           s = 0;
           x = k .x;
           right = omega arith;
+          small = k .small;
           fills = simp z (ap (λ n. 0 ∷ n ∷ []) (k .reads));
           again = k .again;
           inside = k .inside;
@@ -616,6 +630,7 @@ sort-seen xs t m f e = let p = there-fine xs 0 _ t m e in go (eqb (byte xs 0) 0)
           s = byte xs 0;
           x = k .x;
           right = ltb-true _ _ hb;
+          small = k .small;
           fills = simp ha (ap (λ n. byte xs 0 ∷ n ∷ []) (k .reads));
           again = simp ha (k .again);
           inside = k .inside;

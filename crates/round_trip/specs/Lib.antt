@@ -1,3 +1,4 @@
 pub mod Mark
+pub mod Padded
 pub mod Returned
 pub mod inside

@@ -12,14 +12,16 @@
 //   960 and the 256 with the 192 outside 80..bf: 18,304 * 77 + 128 * 9,920 + 1,216 * 192 = 2,912,640; at 3: two bytes of text with 51,
 //   00..7f with the 960 and the 256, and the 256 with 80..bf: 18,304 * 51 + 128 * 1,216 + 256 * 64 = 1,105,536.
 //   With the texts these are all inputs: 256, 256^2 and 256^3.
-// Unsigned numbers that end with the input: 1 byte: 128. 2 bytes: 128^2 less the 128 below 128: 16,256. 3 bytes: 128^3 less the
-//   128^2 below 16,384: 2,080,768 (the third byte is not 0).
-// Signed ones: 1 byte: 64 (00..3f). 2 bytes: 128 * 64 less the 64 below 64: 8,128. 3 bytes: 128^2 * 64 less the 8,192 below 8,192:
-//   1,040,384.
+// Unsigned numbers that end with the input, each byte but the last 80 or above, and the last below 80: 128; 128^2 = 16,384;
+//   128^3 = 2,097,152. Padded among them, with a last byte 00: 2 bytes: the 128 below 128; 3 bytes: the 128^2 below 16,384.
+// Signed ones, the last below 40: 64; 128 * 64 = 8,192; 128^2 * 64 = 1,048,576. Padded among them, with a last byte 00 and the byte
+//   before it below c0: 2 bytes: the 64 below 64; 3 bytes: the 128 * 64 = 8,192 below 8,192.
+// Longer: those of fewer bytes with any bytes behind. Unsigned: 128 * 256 = 32,768; 256 times that and 16,384 * 256: 12,582,912.
+//   Signed: 64 * 256 = 16,384; 256 times that and 8,192 * 256: 6,291,456.
 // Cut: every byte is 80 or above: 1, 128, 128^2, 128^3 for 0 to 3 bytes, in both forms.
-// Bad, unsigned: a last byte 00 after one or two bytes that go on: 0, 128 and then 128 * 256 + 128^2 = 49,152.
-// Bad, signed: 1 byte: 40..7f, 64. 2 bytes: 64 * 256, and 128 first bytes with 40..7f, 128 * 64, and the 64 of two bytes below 64
-//   (80..bf 00): 24,640. 3 bytes: 256 times that, and 128^2 * 64, and the 8,192 of three bytes below 8,192: 7,364,608.
+// Bad, unsigned: none, since three bytes are within 32 bits.
+// Bad, signed: a last byte 40..7f. 1 byte: 64. 2 bytes: 64 * 256, and 128 first bytes with 40..7f, 128 * 64: 24,576. 3 bytes: 256
+//   times that, and 128^2 * 64: 7,340,032.
 use numbers::Spelling;
 use numbers::Taken;
 use telling::say;
@@ -29,11 +31,13 @@ use telling::say_field;
 struct Numbers {
     // The number ends with the input.
     whole: u64,
+    // It does, and has more bytes than its shortest form.
+    padded: u64,
     // Bytes are left after the number.
     longer: u64,
     // The input ends inside the number.
     cut: u64,
-    // No number of 32 bits in the shortest form.
+    // No number of 32 bits in at most five bytes.
     bad: u64,
 }
 
@@ -41,6 +45,7 @@ impl Numbers {
     fn none() -> Numbers {
         Numbers {
             whole: 0,
+            padded: 0,
             longer: 0,
             cut: 0,
             bad: 0,
@@ -48,12 +53,15 @@ impl Numbers {
     }
 
     // One answer more, for an input of `length` bytes.
-    fn with(self, taken: Taken, length: usize) -> Numbers {
+    fn with(self, taken: Taken, length: usize, signed: bool) -> Numbers {
         let mut next = self;
         match taken {
-            Taken::Value(_, t) => {
+            Taken::Value(n, t) => {
                 if t == length {
                     next.whole = one_more(self.whole);
+                    if shortest(n, signed) < t {
+                        next.padded = one_more(self.padded);
+                    }
                 } else {
                     next.longer = one_more(self.longer);
                 }
@@ -132,9 +140,19 @@ fn one_more(n: u64) -> u64 {
     std::num::wrapping_add_u64(n, 1)
 }
 
+// How many bytes n is put as.
+fn shortest(n: u32, signed: bool) -> usize {
+    if signed {
+        numbers::signed_size(n)
+    } else {
+        numbers::unsigned_size(n)
+    }
+}
+
 fn print(form: &[u8], n: Numbers) {
     say(form);
     say_field(b" whole ", n.whole);
+    say_field(b" padded ", n.padded);
     say_field(b" longer ", n.longer);
     say_field(b" cut ", n.cut);
     say_field(b" bad ", n.bad);
@@ -154,8 +172,8 @@ fn every(length: usize, total: u32) {
             (i / 65536 % 256) as u8,
         ];
         let input = numbers::part(&bytes, 0, length);
-        unsigned = unsigned.with(numbers::take_unsigned(input), length);
-        signed = signed.with(numbers::take_signed(input), length);
+        unsigned = unsigned.with(numbers::take_unsigned(input), length, false);
+        signed = signed.with(numbers::take_signed(input), length, true);
         names = names.with(input);
         i += 1;
     }

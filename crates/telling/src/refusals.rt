@@ -44,7 +44,7 @@ fn print_meaning(number: usize) -> usize {
         10 => say(b"an entry more than can be counted"),
         11 => say(b"the bytes end too soon"),
         12 => say(b"a byte that cannot stand there"),
-        13 => say(b"no 32-bit number in its shortest form"),
+        13 => say(b"no 32-bit number in at most five bytes"),
         14 => say(b"a form above the grade"),
         15 => say(b"another version, no row, or broken framing"),
         _ => say(b"?"),

@@ -1,7 +1,7 @@
 //! Writes the crate's and the model's stored answers: answers FOLDER puts crate.list and model.list there.
 
-use harness::answers::{crate_answers, packed, readings, readings_of_damaged_names, refused_sheets, sheets_of_damaged_names};
-use harness::answers::{FIRST, INSTANCES};
+use harness::answers::{crate_answers, packed, refused_sheets, sheets_of_damaged_names, FIRST, INSTANCES};
+use harness::answers::{readings, readings_of_damaged_names, readings_of_padded_numbers};
 use harness::random::Random;
 use std::{env, fs, path::Path};
 
@@ -15,6 +15,7 @@ fn main() {
     model_cases.extend(refused_sheets(rng, INSTANCES, 20_000, 80));
     model_cases.extend(sheets_of_damaged_names(rng, 2_000, 300));
     model_cases.extend(readings_of_damaged_names(rng, 3_000, 300));
+    model_cases.extend(readings_of_padded_numbers(rng, 3_000, 300));
     let lists = [
         ("crate.list", "Answers of wasm-encoder 0.262.0", crate_cases),
         ("model.list", "Answers of the model in harness/src/model.rs", model_cases),

@@ -1,7 +1,7 @@
 //! Compares the library with the crate and the model, and prints a table of what was compared.
 
 use harness::report::{Difference, Table};
-use harness::{boundaries, components, damage, names, reading, rows, steps, sweep};
+use harness::{boundaries, components, damage, names, padded, reading, rows, steps, sweep};
 use std::process::ExitCode;
 
 /// What is compared, in this order; a part of the comparison is a line here. Each adds its lines to the table.
@@ -13,6 +13,7 @@ const PARTS: &[fn(&mut Table) -> Result<(), Difference>] = &[
     damage::compare,
     names::compare,
     reading::compare,
+    padded::compare,
     components::compare,
 ];
 

@@ -4,17 +4,17 @@ use Prim.Native.Nat.{ℕ, _+_, _-_, _*_, _^_, _≤_, _<_}
 use native.Mathlib.Omega.{arith}
 use native.Mathlib.Nat.{mul-le-mul-right}
 use lib.ListN.{getD}
-use Rattle.numbers.proofs.Reading.{Begun, begun, cut, past, short-form, wide, value, again, five, scale-bound}
+use Rattle.numbers.proofs.Reading.{Begun, begun, cut, past, wide, value, again, five, scale-bound}
 use Rattle.numbers.proofs.leb.read.Statement.{statement}
 use Rattle.numbers.proofs.leb.read.Tie as tie
 use Rattle.numbers.proofs.leb.read.Reads as reads
 use Rattle.numbers.proofs.leb.read.Lts as lts
 
 abbrev Inv-loop : tie.InvT-loop
-Inv-loop input end i₀ low₀ scale₀ least₀ i low scale least = Begun input end i low scale least
+Inv-loop input end i₀ low₀ scale₀ i low scale = Begun input end i low scale
 
 abbrev μ-loop : tie.MeasureT-loop
-μ-loop input end i₀ low₀ scale₀ least₀ i low scale least = 5 - i
+μ-loop input end i₀ low₀ scale₀ i low scale = 5 - i
 
 -- in a round: the byte at i, its bound, and what is at most 128, scaled, with what the bytes before come to
 abbrev b : tie.In-loop Inv-loop μ-loop → ℕ
@@ -53,32 +53,24 @@ add-value c = omega (arith, scaled (c .before .before .before .before) (b (c .be
 returns-3 : tie.Need-returns-3 Inv-loop μ-loop
 returns-3 c =
     let t = c .before .before .before .before .before in
-    short-form (t .before .loop .inv) (t .loop-test .taken) (c .before .before .before .before .if1 .left) (c .before .before .if2 .taken) (c .before .if3 .left) (c .if4 .taken)
+    wide (t .before .loop .inv) (t .loop-test .taken) (c .before .before .before .before .if1 .left) (c .before .before .if2 .taken) (c .before .if3 .left) (c .if4 .taken)
+
+cast-t14 : tie.Need-cast-t14 Inv-loop μ-loop
+cast-t14 c = omega arith
+
+add-t15 : tie.Need-add-t15 Inv-loop μ-loop
+add-t15 c = omega arith
 
 returns-4 : tie.Need-returns-4 Inv-loop μ-loop
 returns-4 c =
-    let t = c .before .before .before .before .before .before in
-    wide (t .before .loop .inv) (t .loop-test .taken) (c .before .before .before .before .before .if1 .left) (c .before .before .before .if2 .taken) (c .before .before .if3 .left) (c .before .if4 .left) (c .if5 .taken)
-
-cast-t15 : tie.Need-cast-t15 Inv-loop μ-loop
-cast-t15 c = omega arith
-
-add-t16 : tie.Need-add-t16 Inv-loop μ-loop
-add-t16 c = omega arith
-
-returns-5 : tie.Need-returns-5 Inv-loop μ-loop
-returns-5 c =
-    let t = c .before .before .before .before .before .before in
-    value (t .before .loop .inv) (t .loop-test .taken) (c .before .before .before .before .before .if1 .left) (c .before .before .before .if2 .taken) (c .before .before .if3 .left) (c .before .if4 .left) (c .if5 .left)
+    let t = c .before .before .before .before .before in
+    value (t .before .loop .inv) (t .loop-test .taken) (c .before .before .before .before .if1 .left) (c .before .before .if2 .taken) (c .before .if3 .left) (c .if4 .left)
 
 mul-low : tie.Need-mul-low Inv-loop μ-loop
 mul-low c = omega (arith, scaled (c .before .before .before) (b (c .before .before .before) - 128) (omega (arith, byte (c .before))))
 
 add-low : tie.Need-add-low Inv-loop μ-loop
 add-low c = omega (arith, scaled (c .before .before .before) (b (c .before .before .before) - 128) (omega (arith, byte (c .before))))
-
-mul-least : tie.Need-mul-least Inv-loop μ-loop
-mul-least c = omega (arith, scaled (c .before .before .before) (c .before .before .before .before .before .args .end) (omega arith))
 
 mul-scale : tie.Need-mul-scale Inv-loop μ-loop
 mul-scale c = omega (arith, scale-bound (c .before .before .before .before .loop .i) (c .before .before .before .loop-test .taken))
@@ -94,11 +86,11 @@ loop-again c =
     let t = c .before .before .before in
     again (t .before .loop .inv) (t .loop-test .taken) (c .before .before .if1 .left) (c .if2 .left) (byte (c .before))
 
-returns-6 : tie.Need-returns-6 Inv-loop μ-loop
-returns-6 c = five (c .before .loop .inv) (c .loop-test .left)
+returns-5 : tie.Need-returns-5 Inv-loop μ-loop
+returns-5 c = five (c .before .loop .inv) (c .loop-test .left)
 
 pub read-spec : {M : Type 1} → statement M
 read-spec =
     tie.close
     (tie.spec Inv-loop μ-loop loop-holds returns shared-slice-read-b cast-b returns-2 mul-value add-value returns-3
-    returns-4 cast-t15 add-t16 returns-5 mul-low add-low mul-least mul-scale add-i loop-less loop-again returns-6)
+    cast-t14 add-t15 returns-4 mul-low add-low mul-scale add-i loop-less loop-again returns-5)
