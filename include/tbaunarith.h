@@ -23,7 +23,7 @@ enum {
     TB_TAG = 4,     /* a word outside its list: its place */
     TB_RANGE = 5,   /* name ends past the pool: the place of its first word */
     TB_TEXT = 6,    /* name is not UTF-8: the place of its first word; reading: the offset of its first byte; `also` says where it stops */
-    TB_TOO_BIG = 7, /* size passes 4,294,967,295: 0 */
+    TB_TOO_BIG = 7, /* finishing: count and body of the section pass 4,294,967,295 bytes: 0 */
     TB_ROOM = 8,    /* too little room: the bytes or words that the call would add */
     TB_ORDER = 9,   /* step out of turn, or an entry still open: 0 */
     TB_COUNT = 10,  /* entry count is at its largest: 0 */

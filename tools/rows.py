@@ -260,10 +260,7 @@ def item(row, pool, family):
     parts = pieces(row, pool, shape)
     if kind == LIFT:
         parts.append(parts.pop(2))
-    made = bytes.fromhex(shape[0]) + b''.join(parts)
-    if len(made) > MOST:
-        raise Refused(TOO_BIG)
-    return made
+    return bytes.fromhex(shape[0]) + b''.join(parts)
 
 
 # Document 01's bench table, the items that are written: pool, row, bytes.

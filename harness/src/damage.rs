@@ -1110,34 +1110,53 @@ fn every_state(family: u64, lists: [&[u64]; 4]) -> Vec<[u64; 5]> {
     states
 }
 
+/// Words of many entries: the family, those before the entries, an entry's, how many entries, and those behind.
+type ManyEntries = (u64, Vec<u32>, Vec<u32>, usize, &'static [u32]);
+
+/// Rows and params of as many words as there may be, and of one entry more. Wish 8: a row has no more than 8,191 names of
+/// 65,536 bytes, so none of these is TOO_BIG.
+fn most_entries() -> Vec<ManyEntries> {
+    const NAME: [u32; 2] = [0, 65_536];
+    let named = |words: &[u32]| [&NAME[..], words].concat();
+    let options = || [1, 0, 65_536].repeat(3);
+    let item = || [named(&options()), vec![5, u32::MAX]].concat();
+    vec![
+        (7, vec![7, 8191], named(&[]), 8191, &[]),
+        (7, vec![7, 8192], named(&[]), 8192, &[]),
+        (7, vec![1, 4095], vec![65_535, 1, 1, 64], 4095, &[]),
+        (7, vec![2, 4095], named(&[1, u32::MAX]), 4095, &[]),
+        (7, vec![6, 8191], vec![1, u32::MAX], 8191, &[]),
+        (7, vec![15, 1, 4094], named(&[1, u32::MAX]), 4094, &[1, u32::MAX]),
+        (7, vec![4095], named(&[0, 12]), 4095, &[]),
+        (7, vec![4096], named(&[0, 12]), 4096, &[]),
+        (10, [vec![17], named(&options())].concat(), vec![2, 1, u32::MAX], 1, &[]),
+        (8, vec![256, u32::MAX, u32::MAX, 8190], vec![8, u32::MAX], 8190, &[]),
+        (8, vec![257, u32::MAX, 8190], vec![3, u32::MAX], 8190, &[]),
+        (2, vec![18, u32::MAX, 5460], named(&[7]), 5460, &[]),
+        (2, vec![18, u32::MAX, 5461], named(&[7]), 5461, &[]),
+        (5, vec![19, 0, 4095], vec![65_535, 1, 0, 64], 4095, &[]),
+        (5, vec![19, u32::MAX, 4095], named(&[0, u32::MAX]), 4095, &[]),
+        (2, vec![20, 4095], vec![1, 65_535, 4, 128], 4095, &[]),
+        (5, vec![21, 1260], item(), 1260, &[]),
+        (5, vec![21, 1261], item(), 1261, &[]),
+    ]
+}
+
 /// Rows and params of as many words, names and pool bytes as there may be, and of one more, beside a small body.
 pub fn largest_rows() -> Result<Tally, String> {
     let mut tally = Tally::default();
     for pool_size in [65_536, 65_537] {
-        for (family, front, entry, count) in [
-            (7, vec![7, 8191], vec![0, 65_536], 8191),
-            (7, vec![7, 8192], vec![0, 65_536], 8192),
-            (7, vec![1, 4095], vec![65_535, 1, 1, 64], 4095),
-            (7, vec![4095], vec![0, 65_536, 0, 12], 4095),
-            (7, vec![4096], vec![0, 65_536, 0, 12], 4096),
-            (2, vec![18, u32::MAX, 5460], vec![0, 65_536, 7], 5460),
-            (2, vec![18, u32::MAX, 5461], vec![0, 65_536, 7], 5461),
-            (5, vec![19, 0, 4095], vec![65_535, 1, 0, 64], 4095),
-            (2, vec![20, 4095], vec![1, 65_535, 4, 128], 4095),
-            (5, vec![21, 1260], [&[0, 65_536][..], &[1, 0, 65_536].repeat(3), &[5, u32::MAX]].concat(), 1260),
-            (5, vec![21, 1261], [&[0, 65_536][..], &[1, 0, 65_536].repeat(3), &[5, u32::MAX]].concat(), 1261),
-        ] {
-            let words = [front, entry.repeat(count)].concat();
+        for (family, front, entry, count, behind) in most_entries() {
+            let words = [&front[..], &entry.repeat(count), behind].concat();
             let pool = vec![b'p'; pool_size];
-            let calls = vec![
-                Call::Row { row: words.clone(), pool: pool.clone() },
-                Call::Open,
-                Call::Params { words: words.clone(), pool: pool.clone() },
-                Call::Row { row: words, pool },
-            ];
+            let row = Call::Row { row: words.clone(), pool: pool.clone() };
+            let calls = match family {
+                7 => vec![row.clone(), Call::Open, Call::Params { words, pool }, row],
+                _ => vec![row],
+            };
             let case = StepsCase { state: [family, 0, 0, 0, 0], body_room: 16, calls };
             if let Some(told) = case.run(&mut tally) {
-                return Err(format!("{count} times {entry:?}, pool of {pool_size} bytes:{told}"));
+                return Err(format!("{front:?}, {count} times {entry:?}, pool of {pool_size} bytes:{told}"));
             }
         }
     }
@@ -1231,4 +1250,23 @@ pub fn short_inputs() -> Result<Tally, String> {
         read(true, &[&[0x02, 0x00], input].concat(), 3)
     })?;
     Ok(tally)
+}
+
+#[cfg(test)]
+mod tests {
+    use super::*;
+
+    #[test]
+    fn no_row_is_too_big() {
+        let pool = vec![b'p'; 65_536];
+        let sizes = most_entries().into_iter().map(|(family, front, entry, count, behind)| {
+            let row = [&front[..], &entry.repeat(count), behind].concat();
+            match tbaunarith::Section::new(family).row(&row, &pool, &mut []) {
+                Err(Refused { why: Refusal::Room, value, .. }) => value,
+                _ => 0,
+            }
+        });
+        // Flags of 8,191 names of 65,536 bytes and three of length each, behind the lead and two bytes of count.
+        assert_eq!(sizes.max(), Some(3 + 8191 * 65_539));
+    }
 }

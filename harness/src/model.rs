@@ -9,7 +9,7 @@ const POOL_BYTES: usize = 65_536;
 const INPUT_BYTES: usize = 1_073_741_824;
 const SHEET_BYTES: usize = 65_536;
 
-/// The largest size of an item or of a finished section's content, and the largest entry count.
+/// The largest size of a finished section's content, the largest entry count, and the largest number that is read.
 const MOST: u64 = 4_294_967_295;
 
 // "A section and its open entry": the families; wish 1 adds those of instances.
@@ -176,7 +176,7 @@ fn words_needed(kind: u32, row: &[u32]) -> Option<u64> {
 
 // Writing.
 
-/// The bytes of a row, room apart: LIMIT, KIND, ROW, the fields left to right, TOO_BIG.
+/// The bytes of a row, room apart: LIMIT, KIND, ROW, the fields left to right. TOO_BIG is about sections only (wish 8).
 pub fn write_row(family: u64, row: &[u32], pool: &[u8]) -> Result<Vec<u8>, Refused> {
     if !is_family(family) || row.len() > ROW_WORDS || pool.len() > POOL_BYTES {
         return refused(Refusal::Limit, 0);
@@ -198,9 +198,6 @@ pub fn write_row(family: u64, row: &[u32], pool: &[u8]) -> Result<Vec<u8>, Refus
         17 => fields.import()?,
         18..=21 => fields.instance(kind)?,
         _ => fields.canonical(kind)?,
-    }
-    if fields.bytes.len() as u64 > MOST {
-        return refused(Refusal::TooBig, 0);
     }
     Ok(fields.bytes)
 }
@@ -589,15 +586,6 @@ impl Section {
         }
     }
 
-    /// Adds a step's bytes to the open entry: TOO_BIG if they are too many (what was added before does not count, as
-    /// decided in W16), ROOM if the body has none.
-    fn add_to_entry(&mut self, bytes: &[u8], body: &mut [u8]) -> Result<usize, Refused> {
-        if bytes.len() as u64 > MOST {
-            return refused(Refusal::TooBig, 0);
-        }
-        self.add(bytes, body)
-    }
-
     /// A row adds its bytes and 1.
     pub fn row(&mut self, row: &[u32], pool: &[u8], body: &mut [u8]) -> Result<usize, Refused> {
         self.judge_state(body.len())?;
@@ -642,7 +630,7 @@ impl Section {
         }
         let mut fields = Fields { words: &[a], place: 0, pool: &[], bytes: Vec::new() };
         fields.function_lead()?;
-        let size = self.add_to_entry(&fields.bytes, body)?;
+        let size = self.add(&fields.bytes, body)?;
         self.phase = ASYNC_GIVEN;
         Ok(size)
     }
@@ -665,7 +653,7 @@ impl Section {
             fields.byte(0x40);
         }
         fields.list(Fields::named_value)?;
-        let size = self.add_to_entry(&fields.bytes, body)?;
+        let size = self.add(&fields.bytes, body)?;
         self.phase = PARAMS_GIVEN;
         Ok(size)
     }
@@ -678,7 +666,7 @@ impl Section {
         }
         let mut fields = Fields { words: &[tag, x], place: 0, pool: &[], bytes: Vec::new() };
         fields.function_result()?;
-        let size = self.add_to_entry(&fields.bytes, body)?;
+        let size = self.add(&fields.bytes, body)?;
         self.phase = CLOSED;
         self.start = 0;
         Ok(size)

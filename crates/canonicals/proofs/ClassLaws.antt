@@ -265,44 +265,42 @@ flag-at pool row at h =
 
 module _ (lead : ℕ) (row pool : List ℕ) (small : length pool ≤ 65536) where
   optioned-right : (byte : Field) (m : ℕ) → wide byte ≡ 0 → ((ws : List ℕ) → flaw pool byte ws ≡ Right)
-      → m ≡ length (binary.bytes pool byte (drop 1 row)) → m ≤ 1
+      → m ≡ length (binary.bytes pool byte (drop 1 row))
       → Optioned row → measuredRow (Is (optioned lead byte)) row pool ≡ Size (1 + m + optionedSize row)
   unfolding wide widths flaw binary.bytes
-  optioned-right byte m ez always em few h =
+  optioned-right byte m ez always em h =
       many-known (field.Fixed lead) byte field.Index field.Choice field.Nothing field.Nothing refl ez {w = 2} refl row pool (choice-element pool)
       (λ ws. refl) always small (h .short) (omega (arith, h .width)) (index-at pool row 1 refl refl) refl
       (record { right = choices-rights pool (word row 2) (drop 3 row) (h .right); size = refl }) (nothing-at pool (drop (3 + word row 2 * 2) row))
       (omega (arith, em))
-      (omega (arith, number-size (word row 1), number-size (word row 2), choices-small (word row 2) (drop 3 row), h .short, h .width))
 
   class-right : (c : Class) → Good c row → measuredRow (shapeFor c lead) row pool ≡ Size (sizeFor c row)
   unfolding shapeFor wide flaw binary.bytes
   class-right class.Nothing h =
       lead-known lead field.Nothing field.Nothing row pool small (omega arith) h (nothing-at pool (drop 1 row))
-      (nothing-at pool (drop 1 row)) refl (omega arith)
+      (nothing-at pool (drop 1 row)) refl
   class-right class.Zero h =
       two-known (field.Fixed lead) (field.Fixed 0x00) field.Nothing field.Nothing refl refl row pool (λ ws. refl) (λ ws. refl) small (omega arith) h
-      (nothing-at pool (drop 1 row)) (nothing-at pool (drop 1 row)) refl (omega arith)
+      (nothing-at pool (drop 1 row)) (nothing-at pool (drop 1 row)) refl
   class-right class.Index h =
       lead-known lead field.Index field.Nothing row pool small (omega arith) h (index-at pool row 1 refl refl) (nothing-at pool (drop 2 row))
-      (omega arith) (omega (arith, number-size (word row 1)))
+      (omega arith)
   class-right class.ZeroIndex h =
       two-known (field.Fixed lead) (field.Fixed 0x00) field.Index field.Nothing refl refl row pool (λ ws. refl) (λ ws. refl) small (omega arith) h
-      (index-at pool row 1 refl refl) (nothing-at pool (drop 2 row)) (omega arith) (omega (arith, number-size (word row 1)))
+      (index-at pool row 1 refl refl) (nothing-at pool (drop 2 row)) (omega arith)
   class-right class.Indices h =
       lead-known lead field.Index field.Index row pool small (omega arith) h (index-at pool row 1 refl refl) (index-at pool row 2 refl refl) refl
-      (omega (arith, number-size (word row 1), number-size (word row 2)))
   class-right class.Flag h =
       lead-known lead field.Flag field.Nothing row pool small (omega (arith, h .0)) (h .0) (flag-at pool row 1 (h .1))
-      (nothing-at pool (drop 2 row)) refl (omega arith)
+      (nothing-at pool (drop 2 row)) refl
   class-right class.IndexFlag h =
       lead-known lead field.Index field.Flag row pool small (omega (arith, h .0)) (h .0) (index-at pool row 1 refl refl)
-      (flag-at pool row 2 (h .1)) (omega arith) (omega (arith, number-size (word row 1)))
+      (flag-at pool row 2 (h .1)) (omega arith)
   class-right class.RepIndex h =
       lead-known lead field.Rep field.Index row pool small (omega (arith, h .0)) (h .0) (rep-at pool row 1 refl (h .1))
-      (index-at pool row 2 refl refl) refl (omega (arith, number-size (word row 2)))
-  class-right class.Options h = optioned-right field.Nothing 0 refl (λ ws. refl) refl (omega arith) h
-  class-right class.ZeroOptions h = optioned-right (field.Fixed 0x00) 1 refl (λ ws. refl) refl (omega arith) h
+      (index-at pool row 2 refl refl) refl
+  class-right class.Options h = optioned-right field.Nothing 0 refl (λ ws. refl) refl h
+  class-right class.ZeroOptions h = optioned-right (field.Fixed 0x00) 1 refl (λ ws. refl) refl h
   class-right class.Not h = absurd h
 
 -- ---- a row that has a size is right

@@ -33,7 +33,7 @@ use Rattle.writing.proofs.GroupLaws.{choice-element, bytes-wrote, number-wrote}
 use Rattle.writing.proofs.RowLaws.{within-fits, within-not, rights-first, rights-join, only-groups, Held, row-known, row-held}
 use Rattle.canonicals.specs.inside.Class.{Choices, choices, Chosen, Lifted, countedBytes, countedSize, liftedSize, LiftTried}
 use Rattle.canonicals.specs.Table.{liftShape, lift}
-use Rattle.canonicals.proofs.ClassLaws.{one, element, choices-rights, rights-choices, number-size, choices-small}
+use Rattle.canonicals.proofs.ClassLaws.{one, element, choices-rights, rights-choices}
 
 pub lifted-known : (row pool : List ℕ) {a b c r : ℕ} → length pool ≤ 65536 → length row ≤ 16384 → length row ≡ 4 + word row 3 * 2
     → a ≡ length (unsigned (word row 1)) → b ≡ length (unsigned (word row 2)) → c ≡ length (unsigned (word row 3))
@@ -75,7 +75,6 @@ lift-right k f t n os pool h =
     row-known liftShape pool (k ∷ f ∷ t ∷ n ∷ os) (h .small) (h .short) (omega (arith, h .width))
     (refl, (refl, (refl, (refl, (refl, rights-join pool (repeated n one) (field.Nothing ∷ []) os (choices-rights pool n os (h .right)) (refl, tt))))))
     (sym (lift-length pool k f t n os))
-    (omega (arith, number-size f, number-size t, number-size n, choices-small n os, h .short, h .width))
 
 pub lift-sized : (row pool : List ℕ) → Lifted row pool → measuredRow (Is liftShape) row pool ≡ Size (2 + liftedSize row)
 lift-sized row pool h =

@@ -1,6 +1,5 @@
 pub mod Bad
 pub mod Bench
-pub mod BigShape
 pub mod Demand2
 pub mod Demand3
 pub mod Families
@@ -14,6 +13,7 @@ pub mod Numbers
 pub mod One
 pub mod Production
 pub mod ReadNumbers
+pub mod Sizes
 pub mod StepNumbers
 pub mod Steps
 pub mod StepsAccepted

@@ -150,7 +150,7 @@ writtenCoreInstances = written coreInstances (item 0 1)
 abbrev pub writtenInstances : List (List ℕ × List ℕ × List ℕ × ℕ)
 writtenInstances = written instances (instance-with 0 1)
 
--- ---- the same imports by their shape, which asks for no kind; and a row that is TOO_BIG
+-- ---- the same imports by their shape, which asks for no kind
 
 abbrev pub importShape : Shape
 importShape = twoOf field.Nothing field.Nothing field.ExternName field.Reference
@@ -164,9 +164,6 @@ founds =
     ∷ (found.Is importShape, zeros 16385, [])
     ∷ (found.Not, import 0 1, [])
     ∷ each (λ x. (found.Is importShape, x .0, x .1)) (wrong import 6)
-
-abbrev pub bigRow : List ℕ
-bigRow = 0 ∷ 4294967295 ∷ []
 
 -- ---- reading: OK, a grade that is none, TEXT, ROOM, CUT, CODE, NUMBER, NEWER
 

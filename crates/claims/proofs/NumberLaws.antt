@@ -1,12 +1,11 @@
 -- Why fields, rows and items are refused, by a predicate over refusals: what holds of the refusals of each field holds of those of a
--- whole row or item, and no row of a table is TOO_BIG.
-use Prim.Native.Nat.{ℕ, zero, suc, _+_, _≤_, _<_}
-use native.Mathlib.Omega.{arith}
-use mathlib.Core.Path.{_≡_, refl, sym, ap, _∙_}
+-- whole row or item.
+use Prim.Native.Nat.{ℕ, zero, suc, _+_}
+use mathlib.Core.Path.{_≡_, refl, sym}
 use mathlib.Core.Logic.{_⊎_, inl, inr}
 use mathlib.Core.Bool.{Bool, true, false, _&&_, cond}
 use mathlib.Core.List.{List, [], _∷_, _++_}
-use borrow.Author.Tests.{ltb-true, ltb-false, leb-true, eqb-true}
+use borrow.Author.Tests.{eqb-true}
 use lib.Dec.{eqb, ltb, leb}
 use lib.ListN.{length, getD, drop}
 use Rattle.numbers.specs.Text.{text, stop}
@@ -31,14 +30,11 @@ use Rattle.writing.specs.Binary.{bytes}
 use Rattle.writing.specs.Judge.{then, below, unused, value, optionalValue, named, optionalIndex, choice, optionalName, reference, flaw, unless, judge}
 use Rattle.reading.specs.Read.{refusalOf}
 use Rattle.writing.specs.Row.{measuredFound, measuredRow}
-use Rattle.fields.specs.Shape.{opening, group, closing, repeated, seq, counts, plan, widths, rowWidth}
+use Rattle.fields.specs.Shape.{opening, group, closing, repeated, seq, counts, plan, rowWidth}
 use Rattle.fields.specs.Table.{Line, shapeIn}
 use Rattle.fields.specs.Walk.{Plan, end, step, Side, next, walk}
 use Rattle.fields.specs.Answers.{offsetOf, numberOfRefusal, numberOf, Left}
 use Rattle.writing.specs.Write.{writer, judged, sized, measured, stored}
-use Rattle.writing.proofs.AnswerLaws.{Sized}
-use Rattle.writing.proofs.TableRows.{every, of-every}
-use Rattle.writing.proofs.WholeLaws.{never-too-big}
 use Rattle.claims.specs.Kept.{numberOfRead}
 use Rattle.claims.specs.Numbers.{Among}
 use Rattle.claims.proofs.Families.{on-test}
@@ -267,24 +263,22 @@ all-allowed P r t f = go (nameless f)
     go true = tt
     go false = (r, t)
 
--- what a row of a shape can meet: TOO_BIG only where its size is too big
+-- what a row of a shape can meet
 pub record Measures (P : Refusal → Type 0) (s : Shape) (row : List ℕ) (start : ℕ) (pool : List ℕ) : Type 0 where
   pub limit : (b : Bool) → b ≡ true → (b ≡ ltb 16384 (length row)) ⊎ (b ≡ ltb 65536 (length pool)) → P refusal.Limit
   pub width : eqb (rowWidth s row start) (length row) ≡ false → P refusal.Row
   pub tag : P refusal.Tag
   pub names : Each (Allowed P) (plan s)
-  pub big : (m : ℕ) → Sized s row start pool m → 4294967295 < m → P refusal.TooBig
 
--- a row of any shape, whose groups may have no words
-pub any-shape : (P : Refusal → Type 0) → P refusal.Limit → P refusal.Row → P refusal.Tag → P refusal.Range → AnyText P → P refusal.TooBig
+-- a row of any shape
+pub any-shape : (P : Refusal → Type 0) → P refusal.Limit → P refusal.Row → P refusal.Tag → P refusal.Range → AnyText P
     → (s : Shape) (row : List ℕ) (start : ℕ) (pool : List ℕ) → Measures P s row start pool
-any-shape P limit empty tag range text big s row start pool =
+any-shape P limit empty tag range text s row start pool =
     record {
       limit = λ b e k. limit;
       width = λ e. empty;
       tag = tag;
       names = each-any (Allowed P) (all-allowed P range text) (plan s);
-      big = λ m k h. big;
     }
 
 pub measured-why : (P : Refusal → Type 0) (s : Shape) (row : List ℕ) (start : ℕ) (pool : List ℕ) → Measures P s row start pool
@@ -292,46 +286,28 @@ pub measured-why : (P : Refusal → Type 0) (s : Shape) (row : List ℕ) (start 
 unfolding measured sized
 measured-why P s row start pool h = rows (ltb 16384 (length row)) refl
   where
-    made : (l : Leaf) → judged s pool row start ≡ l → Ends P l → rowWidth s row start ≡ length row → length row ≤ 16384 → length pool ≤ 65536
-        → Tells P (sized l)
-    made (Bad w j) p k width short small = k
-    made (Fine e m) p k width short small = right (ltb 4294967295 m) refl
-      where
-        right : (b : Bool) → ltb 4294967295 m ≡ b → Tells P (cond b (Refused refusal.TooBig 0) (Size m))
-        right true q = h .big m (record { width = width; short = short; small = small; end = e; judges = p }) (ltb-true _ _ q)
-        right false q = tt
+    made : (l : Leaf) → Ends P l → Tells P (sized l)
+    made (Bad w j) k = k
+    made (Fine e m) k = tt
 
-    widths : (b : Bool) → eqb (rowWidth s row start) (length row) ≡ b → length row ≤ 16384 → length pool ≤ 65536
-        → Tells P (cond b (sized (judged s pool row start)) (Refused refusal.Row 0))
-    widths true p short small =
-        made (judged s pool row start) refl
-        (walk-why (Allowed P) P (writer pool) (judge-why P (h .tag) pool) (plan s) (h .names) (drop start row) start 0) (eqb-true _ _ p) short small
-    widths false p short small = h .width p
+    widths : (b : Bool) → eqb (rowWidth s row start) (length row) ≡ b → Tells P (cond b (sized (judged s pool row start)) (Refused refusal.Row 0))
+    widths true p =
+        made (judged s pool row start)
+        (walk-why (Allowed P) P (writer pool) (judge-why P (h .tag) pool) (plan s) (h .names) (drop start row) start 0)
+    widths false p = h .width p
 
-    pools : (b : Bool) → ltb 65536 (length pool) ≡ b → length row ≤ 16384
+    pools : (b : Bool) → ltb 65536 (length pool) ≡ b
         → Tells P (cond b (Refused refusal.Limit 0)
         (cond (eqb (rowWidth s row start) (length row)) (sized (judged s pool row start)) (Refused refusal.Row 0)))
-    pools true p short = h .limit true refl (inr (sym p))
-    pools false p short = widths (eqb (rowWidth s row start) (length row)) refl short (ltb-false _ _ p)
+    pools true p = h .limit true refl (inr (sym p))
+    pools false p = widths (eqb (rowWidth s row start) (length row)) refl
 
     rows : (b : Bool) → ltb 16384 (length row) ≡ b
         → Tells P (cond b (Refused refusal.Limit 0)
         (cond (ltb 65536 (length pool)) (Refused refusal.Limit 0)
         (cond (eqb (rowWidth s row start) (length row)) (sized (judged s pool row start)) (Refused refusal.Row 0))))
     rows true p = h .limit true refl (inl (sym p))
-    rows false p = pools (ltb 65536 (length pool)) refl (ltb-false _ _ p)
-
--- a shape whose groups have a word makes no row too big
-pub never-big : (s : Shape) → (s .counted ≡ true → 1 ≤ widths (group s)) → {row : List ℕ} {start : ℕ} {pool : List ℕ} {A : Type 0} (m : ℕ)
-    → Sized s row start pool m → 4294967295 < m → A
-never-big s worded m k h = absurd (omega (arith, never-too-big k worded))
-
--- the same as a test, which is computed over a table
-abbrev pub worded : Shape → Bool
-worded s = cond (s .counted) (leb 1 (widths (group s))) true
-
-pub worded-group : (s : Shape) → worded s ≡ true → s .counted ≡ true → 1 ≤ widths (group s)
-worded-group s e c = leb-true 1 (widths (group s)) (ap (λ t. cond t (leb 1 (widths (group s))) true) (sym c) ∙ e)
+    rows false p = pools (ltb 65536 (length pool)) refl
 
 -- a row of a kind: an empty one is ROW, and no kind is KIND
 pub record MeasuresRow (P : Refusal → Type 0) (found : Found) (row pool : List ℕ) : Type 0 where
@@ -392,19 +368,18 @@ pub record Basic (P : Refusal → Type 0) : Type 0 where
   pub empty : P refusal.Row
   pub tag : P refusal.Tag
 
-pub shape-why : (P : Refusal → Type 0) → Basic P → (s : Shape) → worded s ≡ true → Each (Allowed P) (plan s) → (row pool : List ℕ)
+pub shape-why : (P : Refusal → Type 0) → Basic P → (s : Shape) → Each (Allowed P) (plan s) → (row pool : List ℕ)
     → Measures P s row 1 pool
-shape-why P h s w names row pool =
-    record { limit = λ b e k. h .limit; width = λ e. h .empty; tag = h .tag; names = names; big = never-big s (worded-group s w) }
+shape-why P h s names row pool = record { limit = λ b e k. h .limit; width = λ e. h .empty; tag = h .tag; names = names }
 
--- the rows of a table whose groups have words
-pub table-why : (P : Refusal → Type 0) → Basic P → (ls : List Line) → every worded ls ≡ true → (k : ℕ)
+-- the rows of a table
+pub table-why : (P : Refusal → Type 0) → Basic P → (ls : List Line) (k : ℕ)
     → ((s : Shape) → shapeIn ls k ≡ Is s → Each (Allowed P) (plan s)) → (row pool : List ℕ) → Tells P (measuredRow (shapeIn ls k) row pool)
-table-why P h ls words k names row pool =
+table-why P h ls k names row pool =
     measured-row-why P (shapeIn ls k) row pool
     (record {
       limit = h .limit;
       kind = λ e. h .kind;
       empty = h .empty;
-      shape = λ s e. shape-why P h s (of-every worded ls words k s e) (names s e) row pool;
+      shape = λ s e. shape-why P h s (names s e) row pool;
     })

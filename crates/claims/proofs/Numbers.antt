@@ -52,9 +52,8 @@ use Rattle.cabi.specs.Read.{replyOfRead}
 use Rattle.cabi.specs.State as c
 use Rattle.cabi.specs.State.{given, numbersOf, step}
 use Rattle.claims.specs.Kept.{numberOfRead}
-use Rattle.claims.specs.Numbers.{Among, Met, Exactly, RefusesBy}
-use Rattle.claims.proofs.BigShape.{bytesShape, big-measured, big-row}
-use Rattle.claims.proofs.NumberLaws.{Listed, any-shape, Tells, told, read-told, refusal-told, each-any, Allowed, all-allowed, Basic, Measures, measured-why, measured-row-why, stored-why, nameless-plan, never-big}
+use Rattle.claims.specs.Numbers.{Among, Exactly, RefusesBy}
+use Rattle.claims.proofs.NumberLaws.{Listed, any-shape, Tells, told, read-told, refusal-told, each-any, Allowed, all-allowed, Basic, Measures, measured-why, measured-row-why, stored-why, nameless-plan}
 use Rattle.claims.proofs.ReadNumbers.{item-why, refusal-why}
 use Rattle.claims.proofs.StepNumbers.{Named, canonical-why, family-why, write-canonical-why, write-family-why, row-why, open-why, async-why, params-why, result-why, abandon-why, finish-why, sheet-why}
 use Rattle.claims.proofs.NumberInputs as input
@@ -63,15 +62,6 @@ use Rattle.numbers.proofs.Impossible.{impossible}
 
 exactly : {A : Type 0} {f : A → ℕ} {ns : List ℕ} → ((x : A) → Among (f x) ns) → (xs : List A) → each f xs ≡ ns → Exactly A f ns
 exactly {A} {f} {ns} other xs e = record { no-other = other; met = meets f xs ns e }
-
--- the same, where one of the numbers comes of an input that is not computed
-exactly-but : {A : Type 0} {f : A → ℕ} (ns : List ℕ) (n : ℕ) (ms : List ℕ) → ((x : A) → Among (f x) (ns ++ n ∷ ms))
-    → (xs : List A) → each f xs ≡ ns → (x : A) × (f x ≡ n) → (ys : List A) → each f ys ≡ ms → Exactly A f (ns ++ n ∷ ms)
-exactly-but {A} {f} ns n ms other xs d one ys e = record { no-other = other; met = join ns (meets f xs ns d) }
-  where
-    join : (ns : List ℕ) → Met f ns → Met f (ns ++ n ∷ ms)
-    join [] m = (one, meets f ys ms e)
-    join (k ∷ ks) m = (m .0, join ks (m .1))
 
 -- ---- numbers
 
@@ -86,36 +76,27 @@ take-numbers (taken.Value n t) = inl refl
 take-numbers taken.Cut = inr (inl refl)
 take-numbers taken.Bad = inr (inr (inl refl))
 
--- ---- fields: a shape whose groups have no words may make a row TOO_BIG
+-- ---- fields: rows of every shape
 
 module _ (row pool : List ℕ) where
-  shape-why : (ns : List ℕ) (s : Shape) (start : ℕ) → Tells (Listed (1 ∷ 3 ∷ 4 ∷ 5 ∷ 6 ∷ 7 ∷ ns)) (measured s row start pool)
+  shape-why : (ns : List ℕ) (s : Shape) (start : ℕ) → Tells (Listed (1 ∷ 3 ∷ 4 ∷ 5 ∷ 6 ∷ ns)) (measured s row start pool)
   unfolding numberOfRefusal
   shape-why ns s start =
-      let P = Listed (1 ∷ 3 ∷ 4 ∷ 5 ∷ 6 ∷ 7 ∷ ns) in
-      measured-why P s row start pool (any-shape P refl refl refl refl (λ byte. refl) refl s row start pool)
+      let P = Listed (1 ∷ 3 ∷ 4 ∷ 5 ∷ 6 ∷ ns) in
+      measured-why P s row start pool (any-shape P refl refl refl refl (λ byte. refl) s row start pool)
 
-  found-why : (ns : List ℕ) (found : Found) → Tells (Listed (1 ∷ 2 ∷ 3 ∷ 4 ∷ 5 ∷ 6 ∷ 7 ∷ ns)) (measuredRow found row pool)
+  found-why : (ns : List ℕ) (found : Found) → Tells (Listed (1 ∷ 2 ∷ 3 ∷ 4 ∷ 5 ∷ 6 ∷ ns)) (measuredRow found row pool)
   unfolding numberOfRefusal
   found-why ns found =
-      let P = Listed (1 ∷ 2 ∷ 3 ∷ 4 ∷ 5 ∷ 6 ∷ 7 ∷ ns) in
+      let P = Listed (1 ∷ 2 ∷ 3 ∷ 4 ∷ 5 ∷ 6 ∷ ns) in
       measured-row-why P found row pool
-      (record { limit = refl; kind = λ e. refl; empty = refl; shape = λ s e. any-shape P refl refl refl refl (λ byte. refl) refl s row 1 pool })
+      (record { limit = refl; kind = λ e. refl; empty = refl; shape = λ s e. any-shape P refl refl refl refl (λ byte. refl) s row 1 pool })
 
-  shape-numbers : (s : Shape) (start : ℕ) → Among (numberOf (measured s row start pool)) (0 ∷ 1 ∷ 3 ∷ 4 ∷ 5 ∷ 6 ∷ 7 ∷ [])
-  shape-numbers s start = told (1 ∷ 3 ∷ 4 ∷ 5 ∷ 6 ∷ 7 ∷ []) (measured s row start pool) (shape-why [] s start)
+  shape-numbers : (s : Shape) (start : ℕ) → Among (numberOf (measured s row start pool)) (0 ∷ 1 ∷ 3 ∷ 4 ∷ 5 ∷ 6 ∷ [])
+  shape-numbers s start = told (1 ∷ 3 ∷ 4 ∷ 5 ∷ 6 ∷ []) (measured s row start pool) (shape-why [] s start)
 
-  found-numbers : (found : Found) → Among (numberOf (measuredRow found row pool)) (0 ∷ 1 ∷ 2 ∷ 3 ∷ 4 ∷ 5 ∷ 6 ∷ 7 ∷ [])
-  found-numbers found = told (1 ∷ 2 ∷ 3 ∷ 4 ∷ 5 ∷ 6 ∷ 7 ∷ []) (measuredRow found row pool) (found-why [] found)
-
--- the shape that makes a row TOO_BIG
-big-shape : (x : Shape × List ℕ × ℕ × List ℕ) × (numberOf (measured (x .0) (x .1) (x .2) (x .3)) ≡ 7)
-unfolding numberOf numberOfRefusal
-big-shape = ((bytesShape, input.bigRow, 1, []), ap numberOf (big-measured 4294967295 (omega arith)))
-
-big-found : (x : Found × List ℕ × List ℕ) × (numberOf (measuredRow (x .0) (x .1) (x .2)) ≡ 7)
-unfolding numberOf numberOfRefusal
-big-found = ((found.Is bytesShape, input.bigRow, []), ap numberOf (big-row 4294967295 (omega arith)))
+  found-numbers : (found : Found) → Among (numberOf (measuredRow found row pool)) (0 ∷ 1 ∷ 2 ∷ 3 ∷ 4 ∷ 5 ∷ 6 ∷ [])
+  found-numbers found = told (1 ∷ 2 ∷ 3 ∷ 4 ∷ 5 ∷ 6 ∷ []) (measuredRow found row pool) (found-why [] found)
 
 -- ---- types: the parts of a function
 
@@ -141,7 +122,6 @@ async-part a out at =
       width = λ e. impossible cc;
       tag = refl;
       names = nameless-plan (Listed (4 ∷ 8 ∷ [])) types.asyncShape refl;
-      big = never-big types.asyncShape (λ e. impossible cc);
     })
 
 result-part : (t x : ℕ) (out : List ℕ) (at : ℕ) → Among (numberOf (writeShape types.resultShape (t ∷ x ∷ []) 0 [] out at .answer)) (0 ∷ 4 ∷ 8 ∷ [])
@@ -153,12 +133,11 @@ result-part t x out at =
       width = λ e. impossible cc;
       tag = refl;
       names = nameless-plan (Listed (4 ∷ 8 ∷ [])) types.resultShape refl;
-      big = never-big types.resultShape (λ e. impossible cc);
     })
 
 params-part : (first : Bool) (words pool out : List ℕ) (at : ℕ)
     → Among (numberOf (writeShape (types.paramsShape first) words 0 pool out at .answer)) (0 ∷ 1 ∷ 3 ∷ 4 ∷ 5 ∷ 6 ∷ 8 ∷ [])
-unfolding numberOfRefusal widths wide
+unfolding numberOfRefusal
 params-part first words pool out at =
     part-numbers (1 ∷ 3 ∷ 4 ∷ 5 ∷ 6 ∷ []) (types.paramsShape first) words pool out at refl
     (record {
@@ -166,7 +145,6 @@ params-part first words pool out at =
       width = λ e. refl;
       tag = refl;
       names = each-any (Allowed (Listed (1 ∷ 3 ∷ 4 ∷ 5 ∷ 6 ∷ 8 ∷ []))) (all-allowed (Listed (1 ∷ 3 ∷ 4 ∷ 5 ∷ 6 ∷ 8 ∷ [])) refl (λ byte. refl)) (plan (types.paramsShape first));
-      big = never-big (types.paramsShape first) (λ e. omega arith);
     })
 
 item-numbers : (found : Found) (kind lead g : ℕ) (input row : List ℕ)
@@ -349,12 +327,8 @@ refuses-by =
       put-signed = exactly (λ x. store-numbers (signed (x .0)) (x .1) (x .2)) input.puts refl;
       take-unsigned = exactly (λ x. take-numbers (takeUnsigned x)) input.unsigneds refl;
       take-signed = exactly (λ x. take-numbers (takeSigned x)) input.signeds refl;
-      measure-shape =
-          exactly-but (0 ∷ 1 ∷ 3 ∷ 4 ∷ 5 ∷ 6 ∷ []) 7 [] (λ x. shape-numbers (x .1) (x .3) (x .0) (x .2)) input.shapes (rw (zeros-length 16385))
-          big-shape [] refl;
-      measure-row =
-          exactly-but (0 ∷ 1 ∷ 2 ∷ 3 ∷ 4 ∷ 5 ∷ 6 ∷ []) 7 [] (λ x. found-numbers (x .1) (x .2) (x .0)) input.founds (rw (zeros-length 16385)) big-found
-          [] refl;
+      measure-shape = exactly (λ x. shape-numbers (x .1) (x .3) (x .0) (x .2)) input.shapes (rw (zeros-length 16385));
+      measure-row = exactly (λ x. found-numbers (x .1) (x .2) (x .0)) input.founds (rw (zeros-length 16385));
       item-refusal = exactly (λ x. refusal-numbers (x .0) (x .1) (x .2) (x .3)) input.refusedItems refl;
       put-value = exactly (λ x. store-numbers (valtype (x .0) (x .1)) (x .2) (x .3)) input.values refl;
       put-name = exactly (λ x. store-numbers (unsigned (x .2) ++ partOf (x .0) (x .1) (x .2)) (x .3) (x .4)) input.names refl;

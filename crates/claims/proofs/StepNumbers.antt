@@ -1,6 +1,5 @@
 -- Why a row of each family, a step of a section, its finishing and a sheet are refused, by a predicate over refusals.
 use Prim.Native.Nat.{ℕ, _+_}
-use native.Mathlib.Omega.{arith}
 use mathlib.Core.Path.{_≡_, refl}
 use mathlib.Core.Bool.{Bool, true, false, cond}
 use mathlib.Core.List.{List, [], _∷_}
@@ -46,7 +45,7 @@ use Rattle.sheets.specs.Frame.{Rows, Are, Broken, poolOf}
 use Rattle.sheets.specs.Sheet as sheet
 use Rattle.sheets.specs.Sheet.{familyOf, tried, tries, joined, finished, ofRows, sheeted}
 use Rattle.claims.proofs.Families.{on-test}
-use Rattle.claims.proofs.NumberLaws.{AnyText, Ends, Tells, Allowed, each-any, all-allowed, Measures, measured-why, never-big, worded, namelessShape, nameless-plan, measured-row-why, stored-why, Basic, shape-why, table-why}
+use Rattle.claims.proofs.NumberLaws.{AnyText, Ends, Tells, Allowed, each-any, all-allowed, Measures, measured-why, namelessShape, nameless-plan, measured-row-why, stored-why, Basic, shape-why, table-why}
 use Rattle.numbers.proofs.Impossible.{impossible}
 
 -- ---- rows
@@ -60,7 +59,7 @@ pub record Named (P : Refusal → Type 0) : Type 0 where
 module _ (P : Refusal → Type 0) where
   -- no canonical has a name
   pub canonical-why : Basic P → (row pool : List ℕ) → Tells P (measuredCanonical row pool)
-  unfolding measuredCanonical every widths wide
+  unfolding measuredCanonical every
   canonical-why h row pool = go (eqb (word row 0) 256)
     where
       go : (b : Bool) → Tells P (measuredRow (cond b (Is liftShape) (shapeIn canonicals.table (word row 0))) row pool)
@@ -70,27 +69,27 @@ module _ (P : Refusal → Type 0) where
             limit = h .limit;
             kind = λ e. h .kind;
             empty = h .empty;
-            shape = λ s e. let same : liftShape ≡ s = cc in rw (← same) (shape-why P h liftShape refl (nameless-plan P liftShape refl) row pool);
+            shape = λ s e. let same : liftShape ≡ s = cc in rw (← same) (shape-why P h liftShape (nameless-plan P liftShape refl) row pool);
           })
       go false =
-          table-why P h canonicals.table refl (word row 0)
+          table-why P h canonicals.table (word row 0)
           (λ s e. nameless-plan P s (of-every namelessShape canonicals.table refl (word row 0) s e)) row pool
 
   -- the other families have names
   pub family-why : Named P → (family : ℕ) (row pool : List ℕ) → Tells P (measuredFamily family row pool)
-  unfolding measuredFamily measuredType measuredImport measuredCoreInstance measuredInstance every widths wide
+  unfolding measuredFamily measuredType measuredImport measuredCoreInstance measuredInstance
   family-why h family row pool = go (entriesOf family)
     where
-      named : (ls : List Line) → every worded ls ≡ true → Tells P (measuredRow (shapeIn ls (word row 0)) row pool)
-      named ls words =
-          table-why P (h .basic) ls words (word row 0) (λ s e. each-any (Allowed P) (all-allowed P (h .range) (h .text)) (plan s)) row pool
+      named : (ls : List Line) → Tells P (measuredRow (shapeIn ls (word row 0)) row pool)
+      named ls =
+          table-why P (h .basic) ls (word row 0) (λ s e. each-any (Allowed P) (all-allowed P (h .range) (h .text)) (plan s)) row pool
 
       go : (x : Entries) → Tells P (measuredBy x row pool)
-      go Types = named types.table refl
+      go Types = named types.table
       go Canonicals = canonical-why (h .basic) row pool
-      go Imports = named imports.table refl
-      go CoreInstances = named instances.coreTable refl
-      go Instances = named instances.table refl
+      go Imports = named imports.table
+      go CoreInstances = named instances.coreTable
+      go Instances = named instances.table
       go None = h .basic .limit
 
   -- ---- writing them
@@ -167,7 +166,6 @@ module _ (P : Refusal → Type 0) (limit : P refusal.Limit) (s : Section) (body 
               width = λ e. impossible cc;
               tag = tag;
               names = nameless-plan P asyncShape refl;
-              big = never-big asyncShape (λ e. impossible cc);
             }
 
         go : (p : Phase) → Turns (asyncIn p s a body)
@@ -187,7 +185,6 @@ module _ (P : Refusal → Type 0) (limit : P refusal.Limit) (s : Section) (body 
               width = λ e. impossible cc;
               tag = tag;
               names = nameless-plan P resultShape refl;
-              big = never-big resultShape (λ e. impossible cc);
             }
 
         go : (p : Phase) → Turns (resultIn p s t x body)
@@ -197,7 +194,7 @@ module _ (P : Refusal → Type 0) (limit : P refusal.Limit) (s : Section) (body 
         go (Parametered start) = words-why (s .count) Closed resultShape (t ∷ x ∷ []) [] fields
 
     pub params-why : P refusal.Row → P refusal.Range → AnyText P → (words pool : List ℕ) → Turns (paraming s words pool body)
-    unfolding paraming widths wide
+    unfolding paraming
     params-why row range text words pool =
         on-test Turns (sounds s (length body))
         (on-test Turns (ltb 16384 (length words)) limit (on-test Turns (ltb 65536 (length pool)) limit (go (s .phase)))) limit
@@ -209,7 +206,6 @@ module _ (P : Refusal → Type 0) (limit : P refusal.Limit) (s : Section) (body 
               width = λ e. row;
               tag = tag;
               names = each-any (Allowed P) (all-allowed P range text) (plan (paramsShape lead));
-              big = never-big (paramsShape lead) (λ e. omega arith);
             }
 
         go : (p : Phase) → Turns (paramsIn p s words pool body)

@@ -25,7 +25,7 @@ use Rattle.writing.specs.Binary.{bytes, resultlist}
 use Rattle.writing.specs.Judge.{below, value, optionalValue, named, flaw, unless, judge}
 use Rattle.writing.specs.Row.{measuredRow}
 use Rattle.fields.specs.inside.Run.{along}
-use Rattle.fields.specs.Shape.{group, repeated, widths, rowWidth}
+use Rattle.fields.specs.Shape.{repeated, widths, rowWidth}
 use Rattle.fields.specs.Table.{manyOf, shapeIn}
 use Rattle.fields.specs.Walk.{next}
 use Rattle.fields.specs.Answers.{left}
@@ -35,7 +35,7 @@ use Rattle.writing.proofs.AnswerLaws.{Sized, measured-sized}
 use Rattle.writing.proofs.PutLaws.{allFields, judged-along}
 use Rattle.writing.proofs.TableLaws.{strings}
 use Rattle.writing.proofs.WholeLaws as whole
-use Rattle.writing.proofs.WholeLaws.{sized-accepted, never-too-big}
+use Rattle.writing.proofs.WholeLaws.{sized-accepted}
 use Rattle.types.specs.Write.{measuredType}
 use Rattle.imports.specs.Write.{measuredImport}
 use Rattle.canonicals.specs.Write.{measuredCanonical}
@@ -118,17 +118,9 @@ rights-sized shape row start pool size w h k r e =
     }
 
 sized-measured : (shape : Shape) (row : List ℕ) (start : ℕ) (pool : List ℕ) (size : ℕ) → Sized shape row start pool size
-    → (shape .counted ≡ true → 1 ≤ widths (group shape)) → measured shape row start pool ≡ Size size
+    → measured shape row start pool ≡ Size size
 unfolding measured sized
-sized-measured shape row start pool size k worded =
-    let h = never-too-big k worded in
-    simp (
-      le-ltb _ _ (k .short),
-      le-ltb _ _ (k .small),
-      eq-eqb _ _ (k .width),
-      k .judges,
-      le-ltb 4294967295 size (omega (arith, h)),
-    )
+sized-measured shape row start pool size k = simp (le-ltb _ _ (k .short), le-ltb _ _ (k .small), eq-eqb _ _ (k .width), k .judges)
 
 -- ---- the parts of a function
 
@@ -164,7 +156,6 @@ unfolding flaw wide strings bytes widths rowWidth
 right-async a r =
     sized-measured asyncShape (a ∷ []) 0 [] 1
     (rights-sized asyncShape (a ∷ []) 0 [] 1 refl (omega arith) (omega arith) (refl, (refl, (r, (refl, (refl, tt))))) refl)
-    (λ e. impossible cc)
 
 result-right : (tag x size : ℕ) → Sized resultShape (tag ∷ x ∷ []) 0 [] size → RightResult tag x × (size ≡ length (resultlist tag x))
 unfolding flaw wide strings bytes widths
@@ -179,7 +170,6 @@ right-result tag x r =
     sized-measured resultShape (tag ∷ x ∷ []) 0 [] size
     (rights-sized resultShape (tag ∷ x ∷ []) 0 [] size refl (omega arith) (omega arith) (refl, (refl, (r, (refl, (refl, tt)))))
     (omega (arith, length-append (resultlist tag x) [])))
-    (λ e. impossible cc)
 
 -- the parameters behind a lead that has no word
 data Leads : Field → Type 0 where
@@ -205,12 +195,10 @@ module _ (words pool : List ℕ) where
         sized-measured (paramsShape field.Nothing) words 0 pool (0 + paramsSize words pool)
         (rights-sized (paramsShape field.Nothing) words 0 pool (0 + paramsSize words pool) (omega (arith, k .width)) short (k .small)
         (refl, (refl, (refl, (refl, (refl, k .params))))) (omega arith))
-        (λ e. omega arith)
     right-params lead (fixed b) =
         sized-measured (paramsShape (field.Fixed b)) words 0 pool (1 + paramsSize words pool)
         (rights-sized (paramsShape (field.Fixed b)) words 0 pool (1 + paramsSize words pool) (omega (arith, k .width)) short (k .small)
         (refl, (refl, (refl, (refl, (refl, k .params))))) (omega arith))
-        (λ e. omega arith)
 
 -- ---- the row
 
@@ -369,7 +357,7 @@ module _ (s : Section) (body : List ℕ) (a : ℕ) (words pool : List ℕ) (tag 
   unfolding rowing measuredFamily measuredType shapeIn widths wide
   row-accepts r size k h =
       let m : measuredFamily (s .family) row pool ≡ Size size =
-      ap (λ f. measuredFamily f row pool) (r .types) ∙ sized-accepted functionShape row pool size k (never-too-big k (λ e. omega arith)) in
+      ap (λ f. measuredFamily f row pool) (r .types) ∙ sized-accepted functionShape row pool size k in
       let closed : opened (s .phase) ≡ false = ap opened (r .closed) in
       let e : rowedBy (sounds s (length body)) (ltb 16384 (length row)) (ltb 65536 (length pool)) (opened (s .phase)) (eqb (s .count) 4294967295)
       ≡ rowedBy true false false false false =

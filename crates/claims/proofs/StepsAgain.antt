@@ -49,14 +49,14 @@ Other refusal.Newer = Unit {0}
 Other refusal.Sheet = Unit {0}
 
 measured-other : (shape : Shape) (row : List ℕ) (start : ℕ) (pool : List ℕ) → Tells Other (measured shape row start pool)
-measured-other shape row start pool = measured-why Other shape row start pool (any-shape Other tt tt tt tt (λ byte. tt) tt shape row start pool)
+measured-other shape row start pool = measured-why Other shape row start pool (any-shape Other tt tt tt tt (λ byte. tt) shape row start pool)
 
 family-other : (family : ℕ) (row pool : List ℕ) → Tells Other (measuredFamily family row pool)
 family-other family row pool =
     on-family (Tells Other) family row pool
     (λ found.
     measured-row-why Other found row pool
-    (record { limit = tt; kind = λ e. tt; empty = tt; shape = λ s e. any-shape Other tt tt tt tt (λ byte. tt) tt s row 1 pool }))
+    (record { limit = tt; kind = λ e. tt; empty = tt; shape = λ s e. any-shape Other tt tt tt tt (λ byte. tt) s row 1 pool }))
     tt
 
 -- ---- a step as a function of the body

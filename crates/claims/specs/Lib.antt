@@ -7,6 +7,7 @@ pub mod Names
 pub mod Numbers
 pub mod One
 pub mod OneCalls
+pub mod Sizes
 pub mod Steps
 pub mod Taken
 pub mod Valid

@@ -52,15 +52,15 @@ pub record RefusesBy : Type 0 where
   pub put-signed : Exactly (ℕ × ℕ × List ℕ) (λ x. numbers.numberOf (store (signed (x .0)) (x .1) (x .2) .answer)) (0 ∷ 8 ∷ [])
   pub take-unsigned : Exactly (List ℕ) (λ x. numbers.numberOfTaken (takeUnsigned x)) (0 ∷ 11 ∷ 13 ∷ [])
   pub take-signed : Exactly (List ℕ) (λ x. numbers.numberOfTaken (takeSigned x)) (0 ∷ 11 ∷ 13 ∷ [])
-  -- fields: by every shape, TOO_BIG included
-  pub measure-shape : Exactly (Shape × List ℕ × ℕ × List ℕ) (λ x. numberOf (measured (x .0) (x .1) (x .2) (x .3))) (0 ∷ 1 ∷ 3 ∷ 4 ∷ 5 ∷ 6 ∷ 7 ∷ [])
-  pub measure-row : Exactly (Found × List ℕ × List ℕ) (λ x. numberOf (measuredRow (x .0) (x .1) (x .2))) (0 ∷ 1 ∷ 2 ∷ 3 ∷ 4 ∷ 5 ∷ 6 ∷ 7 ∷ [])
+  -- fields: by every shape
+  pub measure-shape : Exactly (Shape × List ℕ × ℕ × List ℕ) (λ x. numberOf (measured (x .0) (x .1) (x .2) (x .3))) (0 ∷ 1 ∷ 3 ∷ 4 ∷ 5 ∷ 6 ∷ [])
+  pub measure-row : Exactly (Found × List ℕ × List ℕ) (λ x. numberOf (measuredRow (x .0) (x .1) (x .2))) (0 ∷ 1 ∷ 2 ∷ 3 ∷ 4 ∷ 5 ∷ 6 ∷ [])
   pub item-refusal : Exactly (Found × ℕ × ℕ × List ℕ) (λ x. numberOfRead (refusalOf (scannedItem (x .0) (x .1) (x .2) (x .3)))) (1 ∷ 6 ∷ 8 ∷ 11 ∷ 12 ∷ 13 ∷ 14 ∷ [])
   -- writing
   pub put-value : Exactly (ℕ × ℕ × ℕ × List ℕ) (λ x. numbers.numberOf (store (valtype (x .0) (x .1)) (x .2) (x .3) .answer)) (0 ∷ 8 ∷ [])
   pub put-name : Exactly (List ℕ × ℕ × ℕ × ℕ × List ℕ) (λ x. numbers.numberOf (store (unsigned (x .2) ++ partOf (x .0) (x .1) (x .2)) (x .3) (x .4) .answer)) (0 ∷ 8 ∷ [])
   pub put-extern : Exactly (List ℕ × List ℕ × ℕ × List ℕ) (λ x. numbers.numberOf (store (externPart (x .0) (x .1)) (x .2) (x .3) .answer)) (0 ∷ 8 ∷ [])
-  -- types and imports: no row is TOO_BIG
+  -- types and imports
   pub measure-type : Exactly (List ℕ × List ℕ) (λ x. numberOf (measuredType (x .0) (x .1))) (0 ∷ 1 ∷ 2 ∷ 3 ∷ 4 ∷ 5 ∷ 6 ∷ [])
   pub write-type : Exactly (List ℕ × List ℕ × List ℕ × ℕ) (λ x. numberOf (writeType (x .0) (x .1) (x .2) (x .3) .answer)) (0 ∷ 1 ∷ 2 ∷ 3 ∷ 4 ∷ 5 ∷ 6 ∷ 8 ∷ [])
   pub read-type : Exactly (ℕ × List ℕ × List ℕ) (λ x. numberOfRead (readType (x .0) (x .1) (x .2) .answer)) (0 ∷ 1 ∷ 6 ∷ 8 ∷ 11 ∷ 12 ∷ 13 ∷ 14 ∷ [])
@@ -73,7 +73,7 @@ pub record RefusesBy : Type 0 where
   -- canonicals: they have no names
   pub measure-canonical : Exactly (List ℕ × List ℕ) (λ x. numberOf (measuredCanonical (x .0) (x .1))) (0 ∷ 1 ∷ 2 ∷ 3 ∷ 4 ∷ [])
   pub write-canonical : Exactly (List ℕ × List ℕ × List ℕ × ℕ) (λ x. numberOf (writeCanonical (x .0) (x .1) (x .2) (x .3) .answer)) (0 ∷ 1 ∷ 2 ∷ 3 ∷ 4 ∷ 8 ∷ [])
-  -- instances, which have names: no row is TOO_BIG
+  -- instances, which have names
   pub measure-core-instance : Exactly (List ℕ × List ℕ) (λ x. numberOf (measuredCoreInstance (x .0) (x .1))) (0 ∷ 1 ∷ 2 ∷ 3 ∷ 4 ∷ 5 ∷ 6 ∷ [])
   pub write-core-instance : Exactly (List ℕ × List ℕ × List ℕ × ℕ) (λ x. numberOf (writeCoreInstance (x .0) (x .1) (x .2) (x .3) .answer)) (0 ∷ 1 ∷ 2 ∷ 3 ∷ 4 ∷ 5 ∷ 6 ∷ 8 ∷ [])
   pub measure-instance : Exactly (List ℕ × List ℕ) (λ x. numberOf (measuredInstance (x .0) (x .1))) (0 ∷ 1 ∷ 2 ∷ 3 ∷ 4 ∷ 5 ∷ 6 ∷ [])

@@ -50,8 +50,7 @@ module _ (row pool : List ℕ) where
   import-known width small {p} {q} e h s most =
       let few : p + q < 2 ^ 32 = omega (arith, extern-bound pool (drop 1 row) small) in (
         few,
-        bare-known field.ExternName field.Reference row pool small (omega arith) width (known-of e h) (reference-at pool row 12 s) refl
-            few,
+        bare-known field.ExternName field.Reference row pool small (omega arith) width (known-of e h) (reference-at pool row 12 s) refl,
       )
 
   described-at : bytes pool field.Reference (drop 12 row) ≡ described

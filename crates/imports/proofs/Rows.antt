@@ -1,4 +1,4 @@
--- An import row that is accepted is written as its production says, and its size is the length of its bytes and below 2^32.
+-- An import row that is accepted is written as its production says, and its size is the length of its bytes and no larger than can be.
 use Prim.Native.Nat.{ℕ}
 use mathlib.Core.Path.{_≡_, refl}
 use mathlib.Core.List.{List}

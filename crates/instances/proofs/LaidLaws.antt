@@ -1,5 +1,5 @@
 -- A row's head and its elements behind it: what is seen of them makes the row's size, and put one after the other they are its bytes.
-use Prim.Native.Nat.{ℕ, _+_, _*_, _^_, _≤_, _<_}
+use Prim.Native.Nat.{ℕ, _+_, _*_, _≤_}
 use native.Mathlib.Omega.{arith}
 use mathlib.Core.Path.{_≡_, refl, sym, ap, _∙_, subst}
 use mathlib.Core.List.{List, [], _∷_, _++_, append-assoc, append-nil}
@@ -57,14 +57,14 @@ module _ {found : Found} {head : List ℕ} {g : List Field} {w : ℕ} {element :
 module _ (d : Field) {w : ℕ} (ew : w ≡ widths (field.Name ∷ d ∷ [])) (row pool : List ℕ) {element : List ℕ → List ℕ}
     (same : (ws : List ℕ) → element ws ≡ strings pool (field.Name ∷ d ∷ []) ws) where
   pub instantiate-known : length pool ≤ 65536 → length row ≤ 16384 → {base r : ℕ} → Headed (instantiateHead row) row 3 (word row 2) w base
-      → Groups pool (field.Name ∷ d ∷ []) element (word row 2) (drop 3 row) base r → r < 2 ^ 32
+      → Groups pool (field.Name ∷ d ∷ []) element (word row 2) (drop 3 row) base r
       → measuredRow (Is (instantiateShape d)) row pool ≡ Size r
   unfolding wide flaw bytes
-  instantiate-known small short {base} {r} h g few =
+  instantiate-known small short {base} {r} h g =
       many-known (field.Fixed 0x00) field.Nothing field.Index field.Name d field.Nothing refl refl ew row pool same (λ ws. refl) (λ ws. refl) small short
       (omega (arith, h .width)) (index-at pool row 1 refl refl)
       (omega (arith, h .size, length-append (unsigned (word row 1)) (unsigned (word row 2))))
-      g (nothing-at pool (drop (3 + word row 2 * w) row)) (omega arith) few
+      g (nothing-at pool (drop (3 + word row 2 * w) row)) (omega arith)
 
   pub instantiate-laid : {to room : ℕ} → Fits (Is (instantiateShape d)) row pool to room
       → Laid (Is (instantiateShape d)) (instantiateHead row) (field.Name ∷ d ∷ []) w element 3 (word row 2) row pool to room
@@ -87,8 +87,8 @@ module _ (d : Field) {w : ℕ} (ew : w ≡ widths (field.Name ∷ d ∷ [])) (ro
 module _ (c d : Field) {w : ℕ} (ew : w ≡ widths (c ∷ d ∷ [])) (row pool : List ℕ) {element : List ℕ → List ℕ}
     (same : (ws : List ℕ) → element ws ≡ strings pool (c ∷ d ∷ []) ws) where
   pub export-items-known : length pool ≤ 65536 → length row ≤ 16384 → {base r : ℕ} → Headed (exportItemsHead row) row 2 (word row 1) w base
-      → Groups pool (c ∷ d ∷ []) element (word row 1) (drop 2 row) base r → r < 2 ^ 32 → measuredRow (Is (exportItemsShape c d)) row pool ≡ Size r
-  export-items-known small short h g few = counted-known 0x01 c d ew row pool same small short (h .width) (omega (arith, h .size)) g few
+      → Groups pool (c ∷ d ∷ []) element (word row 1) (drop 2 row) base r → measuredRow (Is (exportItemsShape c d)) row pool ≡ Size r
+  export-items-known small short h g = counted-known 0x01 c d ew row pool same small short (h .width) (omega (arith, h .size)) g
 
   pub export-items-laid : {to room : ℕ} → Fits (Is (exportItemsShape c d)) row pool to room
       → Laid (Is (exportItemsShape c d)) (exportItemsHead row) (c ∷ d ∷ []) w element 2 (word row 1) row pool to room

@@ -1,4 +1,4 @@
--- A row of an instance that is accepted is written as its production says, and its size is the length of its bytes and below 2^32; it has a byte.
+-- A row of an instance that is accepted is written as its production says, and its size is the length of its bytes and no larger than can be; it has a byte.
 use Prim.Native.Nat.{ℕ, _<_}
 use mathlib.Core.Path.{_≡_, refl}
 use mathlib.Core.Bool.{false}

@@ -59,7 +59,6 @@ fn arguments_size(row: &[u32], from: usize, n: usize, pool: &[u8], base: usize) 
     requires { ⌜ (length (now pool) ≤ poolBytes) × (length (now row) ≤ rowWords) ⌝ }
     requires { ⌜ (from + n * 4 ≤ length (now row)) × (base ≤ 16) ⌝ }
     ensures { λ r. ⌜ (0 < r → Groups (now (pool .entry)) (Field.Name ∷ Field.SortIndex ∷ []) (instantiatearg (now (pool .entry))) n (drop from (now (row .entry))) base r) ⌝ }
-    ensures { λ r. ⌜ r < 2 ^ 32 ⌝ }
 {
     let mut at = from;
     let mut made = base;
@@ -102,7 +101,6 @@ fn items_size(row: &[u32], from: usize, n: usize, pool: &[u8], base: usize) -> u
     requires { ⌜ (length (now pool) ≤ poolBytes) × (length (now row) ≤ rowWords) ⌝ }
     requires { ⌜ (from + n * 13 ≤ length (now row)) × (base ≤ 16) ⌝ }
     ensures { λ r. ⌜ (0 < r → Groups (now (pool .entry)) (Field.ExternName ∷ Field.SortIndex ∷ []) (inlineexport (now (pool .entry))) n (drop from (now (row .entry))) base r) ⌝ }
-    ensures { λ r. ⌜ r < 2 ^ 32 ⌝ }
 {
     let mut at = from;
     let mut made = base;

@@ -31,7 +31,6 @@ fn arguments_size(row: &[u32], from: usize, n: usize, pool: &[u8], base: usize) 
     requires { ⌜ (length (now pool) ≤ poolBytes) × (length (now row) ≤ rowWords) ⌝ }
     requires { ⌜ (from + n * 3 ≤ length (now row)) × (base ≤ 16) ⌝ }
     ensures { λ r. ⌜ (0 < r → Groups (now (pool .entry)) (Field.Name ∷ Field.Argument ∷ []) (coreinstantiatearg (now (pool .entry))) n (drop from (now (row .entry))) base r) ⌝ }
-    ensures { λ r. ⌜ r < 2 ^ 32 ⌝ }
 {
     let mut at = from;
     let mut made = base;
@@ -82,7 +81,6 @@ fn items_size(row: &[u32], from: usize, n: usize, pool: &[u8], base: usize) -> u
     requires { ⌜ (length (now pool) ≤ poolBytes) × (length (now row) ≤ rowWords) ⌝ }
     requires { ⌜ (from + n * 4 ≤ length (now row)) × (base ≤ 16) ⌝ }
     ensures { λ r. ⌜ (0 < r → Groups (now (pool .entry)) (Field.Name ∷ Field.CoreSortIndex ∷ []) (coreinlineexport (now (pool .entry))) n (drop from (now (row .entry))) base r) ⌝ }
-    ensures { λ r. ⌜ r < 2 ^ 32 ⌝ }
 {
     let mut at = from;
     let mut made = base;

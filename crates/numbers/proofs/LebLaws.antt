@@ -15,7 +15,7 @@ use Rattle.numbers.specs.Bytes.{Bytes}
 use Rattle.numbers.specs.declared.leb.Taken.the-variants.{Value}
 use Rattle.numbers.proofs.ExactLaws.{taken-exactly, taken-small, taken-in, inside}
 use Rattle.numbers.proofs.IntegerLaws.{put-is, integer-bytes, integer-again}
-use Rattle.numbers.proofs.Shortest.{bytes-last, bytes-more, at-most, size-by-bounds}
+use Rattle.numbers.proofs.Shortest.{room, bytes-last, bytes-more, at-most, size-by-bounds}
 
 -- what was put is taken back with its size, whatever follows
 pub taken-back : {end sign : ℕ} → Form end sign → (n : ℕ) (rest : List ℕ) → n < 2 ^ 32
@@ -34,6 +34,21 @@ taken-inside {end} f s n t e = inside end 5 s n t (taken-in end s n t e)
 -- a number has 1 to 5 bytes
 pub size-bounds : (end n : ℕ) → (0 < length (bytesOf end 5 n)) × (length (bytesOf end 5 n) ≤ 5)
 size-bounds end n = (omega (arith, size-by-bounds 4 end n), at-most end 5 n)
+
+-- a number below the bound of the last byte has one byte, below 128 times that two at most, and so on
+few : (end j k n : ℕ) → n < room end k → length (bytesOf end j n) ≤ suc k
+unfolding bytesOf
+few end zero k n h = omega arith
+few end (suc j) zero n h = simp (lt-ltb n end h) (omega arith)
+few end (suc j) (suc k) n h = go (ltb n end) (few end j k (n / 128) (omega arith))
+  where
+    go : (t : Bool) → length (bytesOf end j (n / 128)) ≤ suc k
+        → length (cond t (n ∷ []) ((n % 128 + 128) ∷ bytesOf end j (n / 128))) ≤ suc (suc k)
+    go true h = omega arith
+    go false h = omega arith
+
+pub few-bytes : (end k n : ℕ) → n < room end k → length (bytesOf end 5 n) ≤ suc k
+few-bytes end k n h = few end 5 k n h
 
 -- a number below the bound of the last byte is that byte, and any other begins with a byte that another follows
 pub one-byte : (end n : ℕ) → n < end → bytesOf end 5 n ≡ n ∷ []

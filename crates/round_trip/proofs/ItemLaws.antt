@@ -199,7 +199,7 @@ item-only found kind lead g input room after q e fi any known r few =
         small = subst Words (sym back) (o .small);
         clear = (λ i. rowMark (t .is i) lead g pool (back i)) ∙ o .clear;
         accepts =
-            (λ i. measuredRow (t .is i) (back i) pool) ∙ sized-accepted s ws pool n k (omega (arith, padded-again (o .again) .no-more, length-take e input))
+            (λ i. measuredRow (t .is i) (back i) pool) ∙ sized-accepted s ws pool n k
             ∙ ap (λ l. Size (length l)) (sym is);
         again = padded-by is (o .again) refl;
         same = λ s′ is′ pool′ other m a same.

@@ -38,7 +38,7 @@ fn print_meaning(number: usize) -> usize {
         4 => say(b"a word outside its list"),
         5 => say(b"a name that ends past the pool"),
         6 => say(b"a name that is not UTF-8"),
-        7 => say(b"a size past 4294967295"),
+        7 => say(b"a section of more than 4294967295 bytes"),
         8 => say(b"too little room"),
         9 => say(b"a step out of turn, or an entry still open"),
         10 => say(b"an entry more than can be counted"),

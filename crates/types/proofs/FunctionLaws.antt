@@ -1,5 +1,5 @@
 -- A function's row in straight code: what is seen of it makes its size, and its parts put one after the other make its bytes.
-use Prim.Native.Nat.{ℕ, _+_, _*_, _^_, _≤_, _<_}
+use Prim.Native.Nat.{ℕ, _+_, _*_, _≤_, _<_}
 use native.Mathlib.Omega.{arith}
 use mathlib.Core.Path.{_≡_, refl, sym, ap, _∙_, subst}
 use mathlib.Core.Bool.{Bool, true, false, cond}
@@ -52,16 +52,15 @@ module _ (row pool : List ℕ) where
   pub function-known : length pool ≤ 65536 → length row ≤ 16384 → length row ≡ 5 + word row 2 * 4 → word row 1 < 2
       → {q base r : ℕ} → OptionalKnown 2 (word row (3 + word row 2 * 4)) (word row (3 + word row 2 * 4 + 1)) q
       → base ≡ 1 + length (unsigned (word row 2)) + q
-      → Groups pool (field.Name ∷ field.Value ∷ []) (labelvaltype pool) (word row 2) (drop 3 row) base r → r < 2 ^ 32
+      → Groups pool (field.Name ∷ field.Value ∷ []) (labelvaltype pool) (word row 2) (drop 3 row) base r
       → measuredRow (Is functionShape) row pool ≡ Size r
   unfolding wide widths flaw bytes
-  function-known small short width a {q} {base} {r} o eb g few =
+  function-known small short width a {q} {base} {r} o eb g =
       many-known field.Nothing field.Nothing field.Async field.Name field.Value field.Result refl refl refl row pool
       (λ ws. labelled-element pool ws) (λ ws. refl) (λ ws. refl) small short (omega arith) (async-at pool row 1 refl a) refl
       (record { right = g .right; size = refl })
       (result-at pool row (3 + N * 4) refl refl (known-result o pool))
       (omega (arith, g .size))
-      few
 
 -- ---- what is put
 

@@ -12,7 +12,6 @@ use Rattle.numbers.specs.Bytes.{left, store}
 use Rattle.numbers.specs.Leb.{unsigned}
 use Rattle.numbers.specs.Numbers.{valueOf}
 use Rattle.numbers.specs.declared.bytes.Stored.{Stored}
-use Rattle.numbers.proofs.LebLaws.{size-bounds}
 use Rattle.fields.specs.declared.Answer.the-variants.{Size}
 use Rattle.fields.specs.declared.Field.the-variants as field
 use Rattle.fields.specs.declared.Found.the-variants.{Is}
@@ -26,7 +25,6 @@ use Rattle.writing.specs.Sizes.{rightSize}
 use Rattle.writing.specs.inside.Rows.{Known}
 use Rattle.writing.proofs.RowLaws.{
   value-known,
-  value-small,
   none-right,
   some-right,
   optional-known,
@@ -121,7 +119,6 @@ pub primitive-row : (row : List ℕ) → length row ≡ 2 → word row 1 < 14 �
 unfolding wide
 primitive-row row e h pool small =
     bare-known field.Primitive field.Nothing row pool small (omega arith) e (primitive-at pool row 1 refl h) (nothing-at pool (drop 2 row)) refl
-    (omega arith)
 
 module _ (row : List ℕ) where
   module _ {p : ℕ} (ep : p ≡ rightSize [] field.Value (word row 1 ∷ word row 2 ∷ [])) (hp : 0 < p) where
@@ -133,7 +130,6 @@ module _ (row : List ℕ) where
     unfolding wide
     value-row e lead pool small =
         lead-known lead field.Value field.Nothing row pool small (omega arith) e (value-first pool) (nothing-at pool (drop 3 row)) (omega arith)
-        (omega (arith, value-small (word row 1) (word row 2)))
 
     pub values-row : {q : ℕ} → q ≡ rightSize [] field.Value (word row 3 ∷ word row 4 ∷ []) → 0 < q → length row ≡ 5 → (lead : ℕ) (pool : List ℕ)
         → length pool ≤ 65536 → measuredRow (Is (two lead field.Value field.Value)) row pool ≡ Size (1 + p + q)
@@ -141,23 +137,21 @@ module _ (row : List ℕ) where
     values-row eq hq e lead pool small =
         lead-known lead field.Value field.Value row pool small (omega arith) e (value-first pool)
         (value-at pool row 3 refl refl (value-known eq hq pool)) refl
-        (omega (arith, value-small (word row 1) (word row 2), value-small (word row 3) (word row 4)))
 
     pub fixed-row : {q : ℕ} → q ≡ length (unsigned (word row 3)) → length row ≡ 4 → (lead : ℕ) (pool : List ℕ) → length pool ≤ 65536
         → measuredRow (Is (two lead field.Value field.Index)) row pool ≡ Size (1 + p + q)
     unfolding wide
     fixed-row eq e lead pool small =
         lead-known lead field.Value field.Index row pool small (omega arith) e (value-first pool) (index-at pool row 3 refl eq) refl
-        (omega (arith, value-small (word row 1) (word row 2), size-bounds 128 (word row 3)))
 
   pub index-row : {p : ℕ} → p ≡ length (unsigned (word row 1)) → length row ≡ 2 → (lead : ℕ) (pool : List ℕ) → length pool ≤ 65536
       → measuredRow (Is (two lead field.Index field.Nothing)) row pool ≡ Size (1 + p)
   unfolding wide
   index-row ep e lead pool small =
       lead-known lead field.Index field.Nothing row pool small (omega arith) e (index-at pool row 1 refl ep) (nothing-at pool (drop 2 row))
-      (omega arith) (omega (arith, size-bounds 128 (word row 1)))
+      (omega arith)
 
-  module _ {p : ℕ} (sp : OptionalKnown 1 (word row 1) (word row 2) p) (fp : p ≤ 6) where
+  module _ {p : ℕ} (sp : OptionalKnown 1 (word row 1) (word row 2) p) where
     optional-first : (pool : List ℕ) → Known pool field.Optional (drop 1 row) p
     optional-first pool = optional-at pool row 1 refl refl (known-optional pool sp)
 
@@ -166,33 +160,32 @@ module _ (row : List ℕ) where
     unfolding wide
     optional-row e lead pool small =
         lead-known lead field.Optional field.Nothing row pool small (omega arith) e (optional-first pool) (nothing-at pool (drop 3 row))
-        (omega arith) (omega arith)
+        (omega arith)
 
-    pub optionals-row : {q : ℕ} → OptionalKnown 1 (word row 3) (word row 4) q → q ≤ 6 → length row ≡ 5 → (lead : ℕ) (pool : List ℕ)
+    pub optionals-row : {q : ℕ} → OptionalKnown 1 (word row 3) (word row 4) q → length row ≡ 5 → (lead : ℕ) (pool : List ℕ)
         → length pool ≤ 65536 → measuredRow (Is (two lead field.Optional field.Optional)) row pool ≡ Size (1 + p + q)
     unfolding wide
-    optionals-row sq fq e lead pool small =
+    optionals-row sq e lead pool small =
         lead-known lead field.Optional field.Optional row pool small (omega arith) e (optional-first pool)
-        (optional-at pool row 3 refl refl (known-optional pool sq)) refl (omega arith)
+        (optional-at pool row 3 refl refl (known-optional pool sq)) refl
 
   module _ (e : length row ≡ 4) (h : word row 1 < 2) where
-    resource-row : {q : ℕ} (pool : List ℕ) → Known pool field.OptionalIndex (word row 2 ∷ word row 3 ∷ []) q → q ≤ 6 → {r : ℕ} → r ≡ 2 + q
+    resource-row : {q : ℕ} (pool : List ℕ) → Known pool field.OptionalIndex (word row 2 ∷ word row 3 ∷ []) q → {r : ℕ} → r ≡ 2 + q
         → (lead : ℕ) → length pool ≤ 65536 → measuredRow (Is (two lead field.Rep field.OptionalIndex)) row pool ≡ Size r
     unfolding wide
-    resource-row pool s few er lead small =
+    resource-row pool s er lead small =
         lead-known lead field.Rep field.OptionalIndex row pool small (omega arith) e (rep-at pool row 1 refl h)
-        (destructor-at pool row 2 refl refl s) (omega arith) (omega arith)
+        (destructor-at pool row 2 refl refl s) (omega arith)
 
     pub resource-absent : word row 2 ≡ 0 → word row 3 ≡ 0 → (lead : ℕ) (pool : List ℕ) → length pool ≤ 65536
         → measuredRow (Is (two lead field.Rep field.OptionalIndex)) row pool ≡ Size 3
     resource-absent z w lead pool small =
-        resource-row pool (destructor-absent (word row 2) (word row 3) pool z w) (omega arith) refl lead small
+        resource-row pool (destructor-absent (word row 2) (word row 3) pool z w) refl lead small
 
     pub resource-present : word row 2 ≡ 1 → {q : ℕ} → q ≡ length (unsigned (word row 3)) → (lead : ℕ) (pool : List ℕ) → length pool ≤ 65536
         → measuredRow (Is (two lead field.Rep field.OptionalIndex)) row pool ≡ Size (3 + q)
     resource-present z eq lead pool small =
-        resource-row pool (destructor-present (word row 2) (word row 3) pool z eq) (omega (arith, size-bounds 128 (word row 3))) (omega arith) lead
-        small
+        resource-row pool (destructor-present (word row 2) (word row 3) pool z eq) (omega arith) lead small
 
 -- ---- the bytes of rows
 

@@ -1,5 +1,5 @@
 -- The steps of an open function: words from 0 on are a row behind a kind, and so the laws of rows are theirs.
-use Prim.Native.Nat.{ℕ, _+_, _*_, _^_, _≤_, _<_}
+use Prim.Native.Nat.{ℕ, _+_, _*_, _≤_, _<_}
 use native.Mathlib.Omega.{arith}
 use mathlib.Core.Path.{_≡_, refl, sym, ap, _∙_, subst}
 use mathlib.Core.Bool.{Bool, true, false, cond}
@@ -40,12 +40,12 @@ use Rattle.writing.specs.Write.{judged, written, sized, measured, stored, write
 use Rattle.writing.proofs.AnswerLaws.{Sized, measured-sized}
 use Rattle.writing.proofs.PutLaws.{allFields, judged-along}
 use Rattle.writing.proofs.TableLaws.{strings, written-right}
-use Rattle.writing.proofs.WholeLaws.{Accepted, accepted, sized-accepted, size-is-length, never-too-big}
+use Rattle.writing.proofs.WholeLaws.{Accepted, accepted, sized-accepted, size-is-length}
 use Rattle.writing.proofs.WroteLaws.{nothing, then, same-size, of-store, room-first, room-then}
 use Rattle.writing.specs.Sizes.{within}
 use Rattle.writing.specs.inside.Rows.{Rights, Groups}
 use Rattle.writing.proofs.GroupLaws.{word-at, labelled-element, byte-wrote}
-use Rattle.writing.proofs.RowLaws.{nothing-at, row-held, bare-known, many-known, many-held, ManyHeld}
+use Rattle.writing.proofs.RowLaws.{nothing-at, bare-known, many-known, many-held, ManyHeld}
 use Rattle.types.specs.inside.Optional.{OptionalKnown}
 use Rattle.types.specs.Table.{labelvaltype}
 use Rattle.types.specs.Write.{asyncShape, paramsShape, resultShape}
@@ -131,9 +131,6 @@ module _ (s : Shape) (pool words : List ℕ) where
         k : Sized s (0 ∷ words) 1 pool n
         k = shaped (accepted (Is s) (0 ∷ words) pool n e)
 
-        few : n < 2 ^ 32
-        few = row-held s (0 ∷ words) pool e .few
-
         width : rowWidth s words 0 ≡ length words
         width = omega (arith, k .width, width-moved)
 
@@ -144,20 +141,18 @@ module _ (s : Shape) (pool words : List ℕ) where
         go (Fine a m) p =
             let r : Fine (1 + a) m ≡ Fine (k .end) n = ap moved (sym p) ∙ sym judged-moved ∙ k .judges in
             let same : m ≡ n = cc in
-            let small : m ≤ 4294967295 = omega (arith, same, few) in
-            simp (le-ltb _ _ short, le-ltb _ _ (k .small), eq-eqb _ _ width, p, le-ltb _ _ small) (ap Size same)
+            simp (le-ltb _ _ short, le-ltb _ _ (k .small), eq-eqb _ _ width, p) (ap Size same)
         go (Bad w j) p =
             let r : Bad w (1 + j) ≡ Fine (k .end) n = ap moved (sym p) ∙ sym judged-moved ∙ k .judges in
             impossible cc
 
     -- and the other way, with the same bytes
-    pub step-row : Sized s words 0 pool n → length words < 16384 → n < 2 ^ 32
+    pub step-row : Sized s words 0 pool n → length words < 16384
         → (measuredRow (Is s) (0 ∷ words) pool ≡ Size n) × (written s pool words 0 ≡ rowBytes (Is s) pool (0 ∷ words))
     unfolding rowBytes
-    step-row k short few = (
+    step-row k short = (
       sized-accepted s (0 ∷ words) pool n
-          (record { width = omega (arith, k .width, width-moved); short = omega arith; small = k .small; end = 1 + k .end; judges = judges })
-          few,
+          (record { width = omega (arith, k .width, width-moved); short = omega arith; small = k .small; end = 1 + k .end; judges = judges }),
       written-right s pool words 0 (k .end) n (k .judges)
           ∙ ap (λ n. strings pool (opening s ++ later s n) words) (sym count-moved)
           ∙ sym (written-right s pool (0 ∷ words) 1 (1 + k .end) n judges),
@@ -200,14 +195,14 @@ pub record ParamsHeld (first : Bool) (words pool : List ℕ) (n : ℕ) : Type 0 
 module _ (first : Bool) (words pool : List ℕ) where
   pub params-known : length pool ≤ 65536 → length words ≤ 16384 → length words ≡ 1 + word words 0 * 4
       → {base r : ℕ} → base ≡ length (paramsLead first) + length (unsigned (word words 0))
-      → Groups pool (field.Name ∷ field.Value ∷ []) (labelvaltype pool) (word words 0) (drop 1 words) base r → r < 2 ^ 32
+      → Groups pool (field.Name ∷ field.Value ∷ []) (labelvaltype pool) (word words 0) (drop 1 words) base r
       → measured (paramsShape first) words 0 pool ≡ Size r
   unfolding wide widths flaw bytes
-  params-known small short width eb g few =
+  params-known small short width eb g =
       row-step (paramsShape first) pool words
       (many-known (L first) field.Nothing field.Nothing field.Name field.Value field.Nothing (lead-wide first) refl refl (0 ∷ words) pool
       (λ ws. labelled-element pool ws) (lead-right first pool) (λ ws. refl) small (omega arith) (omega arith) (nothing-at pool words)
-      (omega (arith, ap length (lead-bytes first pool words))) g (nothing-at pool (drop (2 + word words 0 * 4) (0 ∷ words))) (omega arith) few)
+      (omega (arith, ap length (lead-bytes first pool words))) g (nothing-at pool (drop (2 + word words 0 * 4) (0 ∷ words))) (omega arith))
 
   pub params-held : {n : ℕ} → measured (paramsShape first) words 0 pool ≡ Size n → ParamsHeld first words pool n
   unfolding wide widths bytes rowWidth
@@ -230,7 +225,7 @@ module _ (first : Bool) (words pool : List ℕ) where
 
       row : (measuredRow (Is (paramsShape first)) (0 ∷ words) pool ≡ Size n)
           × (written (paramsShape first) pool words 0 ≡ rowBytes (Is (paramsShape first)) pool (0 ∷ words))
-      row = step-row (paramsShape first) pool words k (omega (arith, k .short, width)) (never-too-big k (λ c. omega arith))
+      row = step-row (paramsShape first) pool words k (omega (arith, k .short, width))
 
       h : ManyHeld (L first) field.Nothing field.Nothing field.Name field.Value field.Nothing 4 (labelvaltype pool) (0 ∷ words) pool n
       h =
@@ -296,12 +291,12 @@ pub result-written : (tag x : ℕ) → written resultShape [] (tag ∷ x ∷ [])
 unfolding outs seq bytes judge flaw wide
 result-written tag x = append-nil (resultlist tag x)
 
-pub result-measured : {tag x r : ℕ} → OptionalKnown 2 tag x r → r ≤ 6 → measured resultShape (tag ∷ x ∷ []) 0 [] ≡ Size r
+pub result-measured : {tag x r : ℕ} → OptionalKnown 2 tag x r → measured resultShape (tag ∷ x ∷ []) 0 [] ≡ Size r
 unfolding wide
-result-measured {tag} {x} {r} o small =
+result-measured {tag} {x} {r} o =
     row-step resultShape [] (tag ∷ x ∷ [])
     (bare-known field.Result field.Nothing (0 ∷ tag ∷ x ∷ []) [] (omega arith) (omega arith) refl (known-result o []) (nothing-at [] [])
-    (omega arith) (omega arith))
+    (omega arith))
 
 -- what has a size has the bytes of a result, one at least
 pub result-held : (tag x : ℕ) {n : ℕ} → measured resultShape (tag ∷ x ∷ []) 0 [] ≡ Size n → (n ≡ length (resultlist tag x)) × (0 < n)

@@ -29,7 +29,6 @@ fn labels_size(row: &[u32], from: usize, n: usize, pool: &[u8], base: usize) -> 
     requires { ⌜ (length (now pool) ≤ poolBytes) × (length (now row) ≤ rowWords) ⌝ }
     requires { ⌜ (from + n * 2 ≤ length (now row)) × (base ≤ 16) ⌝ }
     ensures { λ r. ⌜ (0 < r → Groups (now (pool .entry)) (Field.Name ∷ Field.Nothing ∷ []) (label (now (pool .entry))) n (drop from (now (row .entry))) base r) ⌝ }
-    ensures { λ r. ⌜ r < 2 ^ 32 ⌝ }
 {
     let mut at = from;
     let mut made = base;
@@ -67,7 +66,6 @@ fn values_size(row: &[u32], from: usize, n: usize, base: usize) -> usize
     requires { ⌜ length (now row) ≤ rowWords ⌝ }
     requires { ⌜ (from + n * 2 ≤ length (now row)) × (base ≤ 16) ⌝ }
     ensures { λ r. ⌜ (0 < r → (pool : List ℕ) → Groups pool (Field.Value ∷ Field.Nothing ∷ []) (λ ws. valtype (word ws 0) (word ws 1)) n (drop from (now (row .entry))) base r) ⌝ }
-    ensures { λ r. ⌜ r < 2 ^ 32 ⌝ }
 {
     let mut at = from;
     let mut made = base;
@@ -104,7 +102,6 @@ pub fn fields_size(row: &[u32], from: usize, n: usize, pool: &[u8], base: usize)
     requires { ⌜ (length (now pool) ≤ poolBytes) × (length (now row) ≤ rowWords) ⌝ }
     requires { ⌜ (from + n * 4 ≤ length (now row)) × (base ≤ 16) ⌝ }
     ensures { λ r. ⌜ (0 < r → Groups (now (pool .entry)) (Field.Name ∷ Field.Value ∷ []) (labelvaltype (now (pool .entry))) n (drop from (now (row .entry))) base r) ⌝ }
-    ensures { λ r. ⌜ r < 2 ^ 32 ⌝ }
 {
     let mut at = from;
     let mut made = base;
@@ -155,7 +152,6 @@ fn cases_size(row: &[u32], from: usize, n: usize, pool: &[u8], base: usize) -> u
     requires { ⌜ (length (now pool) ≤ poolBytes) × (length (now row) ≤ rowWords) ⌝ }
     requires { ⌜ (from + n * 4 ≤ length (now row)) × (base ≤ 16) ⌝ }
     ensures { λ r. ⌜ (0 < r → Groups (now (pool .entry)) (Field.Name ∷ Field.OptionalThenZero ∷ []) (case (now (pool .entry))) n (drop from (now (row .entry))) base r) ⌝ }
-    ensures { λ r. ⌜ r < 2 ^ 32 ⌝ }
 {
     let mut at = from;
     let mut made = base;

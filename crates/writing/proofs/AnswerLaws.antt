@@ -31,11 +31,8 @@ module _ (s : Shape) (row : List ℕ) (start : ℕ) (pool : List ℕ) {found : A
     where
       made : (l : Leaf) → judged s pool row start ≡ l → rowWidth s row start ≡ length row → length row ≤ 16384 → length pool ≤ 65536
           → sized l ≡ Size size → Sized s row start pool size
-      made (Fine a m) p w h k e = right (ltb 4294967295 m) e
-        where
-          right : (b : Bool) → cond b (Refused refusal.TooBig 0) (Size m) ≡ Size size → Sized s row start pool size
-          right true e = impossible cc
-          right false e = let q : m ≡ size = cc in record { width = w; short = h; small = k; end = a; judges = p ∙ ap (λ n. Fine a n) q }
+      made (Fine a m) p w h k e =
+          let q : m ≡ size = cc in record { width = w; short = h; small = k; end = a; judges = p ∙ ap (λ n. Fine a n) q }
       made (Bad w j) p v h k e = impossible cc
 
       widths : (b : Bool) → eqb (rowWidth s row start) (length row) ≡ b → length row ≤ 16384 → length pool ≤ 65536

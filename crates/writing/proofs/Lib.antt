@@ -6,6 +6,7 @@ pub mod FlawLaws
 pub mod GroupLaws
 pub mod JudgedLaws
 pub mod KindLaws
+pub mod LargestLaws
 pub mod LeafLaws
 pub mod OrderLaws
 pub mod ProductionLaws

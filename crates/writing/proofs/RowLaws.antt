@@ -1,10 +1,10 @@
 -- What is seen of a row's fields makes its size and its bytes, and what a row that has a size holds.
-use Prim.Native.Nat.{ℕ, zero, suc, _+_, _*_, _^_, _≤_, _<_}
+use Prim.Native.Nat.{ℕ, zero, suc, _+_, _*_, _≤_, _<_}
 use native.Mathlib.Omega.{arith}
 use mathlib.Core.Path.{_≡_, refl, sym, ap, _∙_, subst}
 use mathlib.Core.Bool.{Bool, true, false, cond}
 use mathlib.Core.List.{List, [], _∷_, _++_, append-assoc, append-nil}
-use borrow.Author.Tests.{ltb-true, ltb-false, leb-true, leb-false, lt-ltb, le-ltb, le-leb, lt-leb, eq-eqb, ne-eqb}
+use borrow.Author.Tests.{ltb-true, ltb-false, leb-true, leb-false, lt-ltb, le-leb, lt-leb, eq-eqb, ne-eqb}
 use lib.Dec.{eqb, ltb, leb}
 use lib.ListN.{length, drop, length-append}
 use lib.Seq.{sets, drop-drop}
@@ -19,7 +19,7 @@ use Rattle.fields.specs.declared.Found.{Found}
 use Rattle.fields.specs.declared.Found.the-variants.{Is}
 use Rattle.fields.specs.declared.Leaf.the-variants.{Fine}
 use Rattle.fields.specs.declared.Refusal.{Refusal}
-use Rattle.fields.specs.declared.Refusal.the-variants.{Room, TooBig}
+use Rattle.fields.specs.declared.Refusal.the-variants.{Room}
 use Rattle.fields.specs.declared.Shape.{Shape}
 use Rattle.fields.specs.Words.{word, wide}
 use Rattle.writing.specs.Binary.{primvaltype, valtype, optional, resultlist, destructor, bytes}
@@ -30,7 +30,7 @@ use Rattle.fields.specs.Shape.{opening, repeated, widths, rowWidth}
 use Rattle.fields.specs.Table.{elements, twoOf, manyOf}
 use Rattle.fields.specs.Walk.{next}
 use Rattle.fields.specs.Answers.{left}
-use Rattle.writing.specs.Write.{written, sized, measured, stored}
+use Rattle.writing.specs.Write.{written, stored}
 use Rattle.writing.proofs.AnswerLaws as answer
 use Rattle.writing.proofs.FlawLaws.{name-inside}
 use Rattle.fields.proofs.NearLaws.{first-word, second-word}
@@ -311,12 +311,11 @@ along-known pool (f ∷ fs) ws at made r =
     rw (r .0) (along-known pool fs (drop (wide f) ws) (at + wide f) (made + length bs) (r .1) ∙ (λ i. Fine (p i) (q i)))
 
 pub row-known : (s : Shape) (pool row : List ℕ) → length pool ≤ 65536 → length row ≤ 16384 → length row ≡ rowWidth s row 1
-    → Rights pool (allFields s row 1) (drop 1 row) → {r : ℕ} → r ≡ length (strings pool (allFields s row 1) (drop 1 row)) → r < 2 ^ 32
+    → Rights pool (allFields s row 1) (drop 1 row) → {r : ℕ} → r ≡ length (strings pool (allFields s row 1) (drop 1 row))
     → measuredRow (Is s) row pool ≡ Size r
-row-known s pool row small short width rights {r} er few =
+row-known s pool row small short width rights {r} er =
     sized-accepted s row pool r
     (record { width = sym width; short = short; small = small; end = _; judges = judged-along s pool row 1 ∙ all })
-    few
   where
     same : 0 + length (strings pool (allFields s row 1) (drop 1 row)) ≡ r
     same = omega arith
@@ -345,7 +344,6 @@ pub record Held (s : Shape) (row pool : List ℕ) (n : ℕ) : Type 0 where
   pub small : length pool ≤ 65536
   pub right : Rights pool (allFields s row 1) (drop 1 row)
   pub size : n ≡ length (strings pool (allFields s row 1) (drop 1 row))
-  pub few : n < 2 ^ 32
   pub made : written s pool row 1 ≡ strings pool (allFields s row 1) (drop 1 row)
   pub bytes : rowBytes (Is s) pool row ≡ strings pool (allFields s row 1) (drop 1 row)
 
@@ -368,23 +366,6 @@ module _ (s : Shape) (row pool : List ℕ) {n : ℕ} (e : measuredRow (Is s) row
       let q : n ≡ 0 + length (strings pool (allFields s row 1) (drop 1 row)) = cc in
       omega arith
 
-  not-big : n < 2 ^ 32
-  unfolding measuredRow measured sized rowWidth
-  not-big =
-      let some : length row ≡ 0 → ⊥ = λ z. omega (arith, shaped .width) in
-      go (ltb 4294967295 n) refl
-      (simp (
-        le-ltb _ _ (shaped .short),
-        le-ltb _ _ (shaped .small),
-        ne-eqb _ _ some,
-        eq-eqb _ _ (shaped .width),
-        shaped .judges,
-      ) at e)
-    where
-      go : (b : Bool) → ltb 4294967295 n ≡ b → cond b (Refused TooBig 0) (Size n) ≡ Size n → n < 2 ^ 32
-      go true p h = impossible cc
-      go false p h = omega (arith, ltb-false 4294967295 n p)
-
   all-made : written s pool row 1 ≡ strings pool (allFields s row 1) (drop 1 row)
   all-made = written-right s pool row 1 (shaped .end) n (shaped .judges)
 
@@ -397,7 +378,6 @@ module _ (s : Shape) (row pool : List ℕ) {n : ℕ} (e : measuredRow (Is s) row
         small = shaped .small;
         right = rights;
         size = length-is;
-        few = not-big;
         made = all-made;
         bytes = all-made;
       }
@@ -453,7 +433,6 @@ pub record TwoHeld (l z a b : Field) (row pool : List ℕ) (n : ℕ) : Type 0 wh
   pub second : flaw pool b (drop (1 + wide a) row) ≡ Right
   pub size : n ≡ length (bytes pool l (drop 1 row)) + length (bytes pool z (drop 1 row)) + length (bytes pool a (drop 1 row))
       + length (bytes pool b (drop (1 + wide a) row))
-  pub few : n < 2 ^ 32
   pub made : rowBytes (Is (twoOf l z a b)) pool row
       ≡ bytes pool l (drop 1 row) ++ (bytes pool z (drop 1 row) ++ (bytes pool a (drop 1 row) ++ bytes pool b (drop (1 + wide a) row)))
 
@@ -484,10 +463,10 @@ module _ (l z a b : Field) (el : wide l ≡ 0) (ez : wide z ≡ 0) (row pool : L
 
   pub two-known : Always pool l → Always pool z → length pool ≤ 65536 → length row ≤ 16384 → length row ≡ 1 + wide a + wide b
       → {p q r : ℕ} → Known pool a (drop 1 row) p → Known pool b (drop (1 + wide a) row) q
-      → r ≡ length (bytes pool l (drop 1 row)) + length (bytes pool z (drop 1 row)) + p + q → r < 2 ^ 32
+      → r ≡ length (bytes pool l (drop 1 row)) + length (bytes pool z (drop 1 row)) + p + q
       → measuredRow (Is (twoOf l z a b)) row pool ≡ Size r
   unfolding Rights flaw
-  two-known rl rz small short width sa sb er few =
+  two-known rl rz small short width sa sb er =
       row-known (twoOf l z a b) pool row small short (width ∙ sym two-width) (
         rl (drop 1 row),
         (
@@ -499,7 +478,6 @@ module _ (l z a b : Field) (el : wide l ≡ 0) (ez : wide z ≡ 0) (row pool : L
         ),
       )
       (omega (arith, two-length, sa .size, sb .size))
-      few
 
   pub two-held : {n : ℕ} → measuredRow (Is (twoOf l z a b)) row pool ≡ Size n → TwoHeld l z a b row pool n
   unfolding Rights
@@ -512,7 +490,6 @@ module _ (l z a b : Field) (el : wide l ≡ 0) (ez : wide z ≡ 0) (row pool : L
         first = subst (λ v. flaw pool a v ≡ Right) (at-first l z el ez (drop 1 row)) (h .right .1 .1 .0);
         second = subst (λ v. flaw pool b v ≡ Right) (at-second l z a el ez row) (h .right .1 .1 .1 .0);
         size = h .size ∙ two-length;
-        few = h .few;
         made = h .bytes ∙ two-strings;
       }
 
@@ -524,17 +501,16 @@ pub record PairHeld (s : Shape) (head : List ℕ) (a b : Field) (row pool : List
   pub first : flaw pool a (drop 1 row) ≡ Right
   pub second : flaw pool b (drop (1 + wide a) row) ≡ Right
   pub size : n ≡ length head + length (bytes pool a (drop 1 row)) + length (bytes pool b (drop (1 + wide a) row))
-  pub few : n < 2 ^ 32
   pub made : rowBytes (Is s) pool row ≡ head ++ (bytes pool a (drop 1 row) ++ bytes pool b (drop (1 + wide a) row))
 
 -- a byte and two fields
 module _ (lead : ℕ) (a b : Field) (row pool : List ℕ) where
   pub lead-known : length pool ≤ 65536 → length row ≤ 16384 → length row ≡ 1 + wide a + wide b
-      → {p q r : ℕ} → Known pool a (drop 1 row) p → Known pool b (drop (1 + wide a) row) q → r ≡ 1 + p + q → r < 2 ^ 32
+      → {p q r : ℕ} → Known pool a (drop 1 row) p → Known pool b (drop (1 + wide a) row) q → r ≡ 1 + p + q
       → measuredRow (Is (twoOf (field.Fixed lead) field.Nothing a b)) row pool ≡ Size r
   unfolding wide flaw bytes
-  lead-known small short width sa sb er few =
-      two-known (field.Fixed lead) field.Nothing a b refl refl row pool (λ ws. refl) (λ ws. refl) small short width sa sb (omega arith) few
+  lead-known small short width sa sb er =
+      two-known (field.Fixed lead) field.Nothing a b refl refl row pool (λ ws. refl) (λ ws. refl) small short width sa sb (omega arith)
 
   pub lead-held : {n : ℕ} → measuredRow (Is (twoOf (field.Fixed lead) field.Nothing a b)) row pool ≡ Size n
       → PairHeld (twoOf (field.Fixed lead) field.Nothing a b) (lead ∷ []) a b row pool n
@@ -548,18 +524,17 @@ module _ (lead : ℕ) (a b : Field) (row pool : List ℕ) where
         first = h .first;
         second = h .second;
         size = omega (arith, h .size);
-        few = h .few;
         made = h .made;
       }
 
 -- two fields alone
 module _ (a b : Field) (row pool : List ℕ) where
   pub bare-known : length pool ≤ 65536 → length row ≤ 16384 → length row ≡ 1 + wide a + wide b
-      → {p q r : ℕ} → Known pool a (drop 1 row) p → Known pool b (drop (1 + wide a) row) q → r ≡ p + q → r < 2 ^ 32
+      → {p q r : ℕ} → Known pool a (drop 1 row) p → Known pool b (drop (1 + wide a) row) q → r ≡ p + q
       → measuredRow (Is (twoOf field.Nothing field.Nothing a b)) row pool ≡ Size r
   unfolding wide flaw bytes
-  bare-known small short width sa sb er few =
-      two-known field.Nothing field.Nothing a b refl refl row pool (λ ws. refl) (λ ws. refl) small short width sa sb (omega arith) few
+  bare-known small short width sa sb er =
+      two-known field.Nothing field.Nothing a b refl refl row pool (λ ws. refl) (λ ws. refl) small short width sa sb (omega arith)
 
   pub bare-held : {n : ℕ} → measuredRow (Is (twoOf field.Nothing field.Nothing a b)) row pool ≡ Size n
       → PairHeld (twoOf field.Nothing field.Nothing a b) [] a b row pool n
@@ -573,7 +548,6 @@ module _ (a b : Field) (row pool : List ℕ) where
         first = h .first;
         second = h .second;
         size = omega (arith, h .size);
-        few = h .few;
         made = h .made;
       }
 
@@ -589,7 +563,6 @@ pub record ManyHeld (l z a c d t : Field) (w : ℕ) (element : List ℕ → List
   pub size : n ≡ length (bytes pool l (drop 1 row)) + length (bytes pool z (drop 1 row)) + length (bytes pool a (drop 1 row))
       + length (unsigned (word row (1 + wide a))) + length (elements (word row (1 + wide a)) w element (drop (2 + wide a) row))
       + length (bytes pool t (drop (2 + wide a + word row (1 + wide a) * w) row))
-  pub few : n < 2 ^ 32
   pub made : rowBytes (Is (manyOf l z a c d t)) pool row
       ≡ bytes pool l (drop 1 row)
       ++ (bytes pool z (drop 1 row)
@@ -694,10 +667,10 @@ module _ (l z a c d t : Field) (el : wide l ≡ 0) (ez : wide z ≡ 0) {w : ℕ}
         → length row ≡ 2 + wide a + word row (1 + wide a) * w + wide t → {p base m q r : ℕ} → Known pool a (drop 1 row) p
         → base ≡ length (bytes pool l (drop 1 row)) + length (bytes pool z (drop 1 row)) + p + length (unsigned (word row (1 + wide a)))
         → Groups pool (c ∷ d ∷ []) element (word row (1 + wide a)) (drop (2 + wide a) row) base m
-        → Known pool t (drop (2 + wide a + word row (1 + wide a) * w) row) q → r ≡ m + q → r < 2 ^ 32
+        → Known pool t (drop (2 + wide a + word row (1 + wide a) * w) row) q → r ≡ m + q
         → measuredRow (Is (manyOf l z a c d t)) row pool ≡ Size r
     unfolding Rights flaw wide
-    many-known rl rz small short width {p} {base} {m} {q} {r} sa eb sg st er few =
+    many-known rl rz small short width {p} {base} {m} {q} {r} sa eb sg st er =
         row-known (manyOf l z a c d t) pool row small short (width ∙ sym many-width) (
           rl (drop 1 row),
           (
@@ -717,7 +690,6 @@ module _ (l z a c d t : Field) (el : wide l ≡ 0) (ez : wide z ≡ 0) {w : ℕ}
           ),
         )
         (omega (arith, many-length, sa .size, sg .size, st .size, ap length (group-strings pool (c ∷ d ∷ []) element same N X)))
-        few
 
     pub many-held : {n : ℕ} → measuredRow (Is (manyOf l z a c d t)) row pool ≡ Size n → ManyHeld l z a c d t w element row pool n
     unfolding Rights wide
@@ -735,7 +707,6 @@ module _ (l z a c d t : Field) (el : wide l ≡ 0) (ez : wide z ≡ 0) {w : ℕ}
           groups = rights-first pool G (t ∷ []) X r;
           last = subst (λ v. flaw pool t v ≡ Right) at-last (rights-rest pool G (t ∷ []) X r .0);
           size = omega (arith, h .size, many-length, ap length many-elements);
-          few = h .few;
           made = h .bytes ∙ many-made;
         }
 
@@ -746,7 +717,6 @@ pub record CountedHeld (lead : ℕ) (c d : Field) (w : ℕ) (element : List ℕ 
   pub small : length pool ≤ 65536
   pub groups : Rights pool (repeated (word row 1) (c ∷ d ∷ [])) (drop 2 row)
   pub size : n ≡ 1 + length (unsigned (word row 1)) + length (elements (word row 1) w element (drop 2 row))
-  pub few : n < 2 ^ 32
   pub made : rowBytes (Is (manyOf (field.Fixed lead) field.Nothing field.Nothing c d field.Nothing)) pool row
       ≡ lead ∷ (unsigned (word row 1) ++ elements (word row 1) w element (drop 2 row))
 
@@ -754,11 +724,11 @@ module _ (lead : ℕ) (c d : Field) {w : ℕ} (ew : w ≡ widths (c ∷ d ∷ []
     (same : (ws : List ℕ) → element ws ≡ strings pool (c ∷ d ∷ []) ws) where
   pub counted-known : length pool ≤ 65536 → length row ≤ 16384 → length row ≡ 2 + word row 1 * w
       → {base r : ℕ} → base ≡ 1 + length (unsigned (word row 1)) → Groups pool (c ∷ d ∷ []) element (word row 1) (drop 2 row) base r
-      → r < 2 ^ 32 → measuredRow (Is (manyOf (field.Fixed lead) field.Nothing field.Nothing c d field.Nothing)) row pool ≡ Size r
+      → measuredRow (Is (manyOf (field.Fixed lead) field.Nothing field.Nothing c d field.Nothing)) row pool ≡ Size r
   unfolding wide flaw bytes
-  counted-known small short width {base} {r} eb sg few =
+  counted-known small short width {base} {r} eb sg =
       many-known (field.Fixed lead) field.Nothing field.Nothing c d field.Nothing refl refl ew row pool same (λ ws. refl) (λ ws. refl) small short
-      (omega arith) (nothing-at pool (drop 1 row)) (omega arith) sg (nothing-at pool (drop (2 + word row 1 * w) row)) (omega arith) few
+      (omega arith) (nothing-at pool (drop 1 row)) (omega arith) sg (nothing-at pool (drop (2 + word row 1 * w) row)) (omega arith)
 
   pub counted-held : {n : ℕ} → measuredRow (Is (manyOf (field.Fixed lead) field.Nothing field.Nothing c d field.Nothing)) row pool ≡ Size n
       → CountedHeld lead c d w element row pool n
@@ -771,6 +741,5 @@ module _ (lead : ℕ) (c d : Field) {w : ℕ} (ew : w ≡ widths (c ∷ d ∷ []
         small = h .small;
         groups = h .groups;
         size = omega (arith, h .size);
-        few = h .few;
         made = h .made ∙ ap (λ v. lead ∷ (unsigned (word row 1) ++ v)) (append-nil (elements (word row 1) w element (drop 2 row)));
       }

@@ -10,7 +10,7 @@ use lib.ListN.{length, drop, length-append, length-drop}
 use lib.Seq.{length-take-le}
 use borrow.Author.Tests.{eqb-false}
 use Rattle.numbers.specs.Leb.{unsigned}
-use Rattle.numbers.proofs.LebLaws.{size-bounds}
+use Rattle.numbers.proofs.LebLaws.{size-bounds, few-bytes}
 use Rattle.fields.specs.declared.Field.{Field}
 use Rattle.fields.specs.declared.Field.the-variants as field
 use Rattle.fields.specs.declared.Flaw.the-variants.{Right}
@@ -114,52 +114,99 @@ reference-small ws =
     (cond-small (eqb (word ws 0) 2) _ _ _ (omega (arith, value-small ws 1))
     (cond-small (eqb (word ws 0) 3) _ _ _ (cond-small (eqb (word ws 1) 0) _ _ _ (omega arith) (omega arith)) (omega arith)))
 
-module _ (pool ws : List ℕ) (few : length pool ≤ 65536) where
-  name-small : word ws 0 + word ws 1 ≤ length pool → nameSize ws 0 ≤ 65541
-  name-small h = omega (arith, size-bounds 128 (word ws 1))
+-- the most bytes that a field has beside a pool of document 01's size, in which a name has three bytes of length at most
+abbrev pub most : Field → ℕ
+most field.Nothing = 0
+most (field.Fixed b) = 1
+most field.Primitive = 1
+most field.Value = 5
+most field.Optional = 6
+most field.OptionalThenZero = 7
+most field.Result = 6
+most field.Name = 65539
+most field.Index = 5
+most field.Async = 1
+most field.Flag = 1
+most field.Rep = 1
+most field.OptionalIndex = 6
+most field.Choice = 6
+most field.ExternName = 262161
+most field.Reference = 7
+most field.Argument = 6
+most field.CoreSortIndex = 6
+most field.SortIndex = 7
 
-  slot-small : (i : ℕ) → SlotInside pool ws i → slotSize ws i ≤ 65542
+module _ (pool ws : List ℕ) (few : length pool ≤ 65536) where
+  name-small : (i : ℕ) → word ws i + word ws (i + 1) ≤ length pool → nameSize ws i ≤ 65539
+  name-small i h = omega (arith, few-bytes 128 2 (word ws (i + 1)) (omega arith))
+
+  slot-small : (i : ℕ) → SlotInside pool ws i → slotSize ws i ≤ 65540
   slot-small i e = go (eqb (word ws i) 0) refl
     where
-      go : (t : Bool) → eqb (word ws i) 0 ≡ t → cond t 0 (1 + nameSize ws (i + 1)) ≤ 65542
+      go : (t : Bool) → eqb (word ws i) 0 ≡ t → cond t 0 (1 + nameSize ws (i + 1)) ≤ 65540
       go true q = omega arith
       go false q =
           let later : i + 1 + 1 ≡ i + 2 = omega arith in
-          rw later (omega (arith, e (eqb-false _ _ q), size-bounds 128 (word ws (i + 2))))
+          omega (arith, name-small (i + 1) (rw later (e (eqb-false _ _ q))))
 
-  extern-small : ExternInside pool ws → externSize ws ≤ 262169
+  extern-small : ExternInside pool ws → externSize ws ≤ 262161
   extern-small r =
-      let itself = name-small (r .itself) in
+      let itself = name-small 0 (r .itself) in
       let implements = slot-small 2 (r .implements) in
       let suffix = slot-small 5 (r .suffix) in
       let id = slot-small 8 (r .id) in
       cond-small (eqb (slots ws) 0) _ _ _ (omega arith) (omega arith)
 
-  size-bound : (f : Field) → flaw pool f ws ≡ Right → size f ws ≤ 1 + 32770 * wide f
-  unfolding size wide flaw
-  size-bound field.Nothing e = omega arith
-  size-bound (field.Fixed b) e = omega arith
-  size-bound field.Primitive e = omega arith
-  size-bound field.Value e = omega (arith, value-small ws 0)
-  size-bound field.Optional e = omega (arith, optional-small 1 ws (omega arith))
-  size-bound field.OptionalThenZero e = omega (arith, optional-small 1 ws (omega arith))
-  size-bound field.Result e = omega (arith, optional-small 2 ws (omega arith))
-  size-bound field.Name e = name-small (name-inside pool ws 0 e)
-  size-bound field.Index e = omega (arith, size-bounds 128 (word ws 0))
-  size-bound field.Async e = omega arith
-  size-bound field.Flag e = omega arith
-  size-bound field.Rep e = omega arith
-  size-bound field.OptionalIndex e = cond-small (eqb (word ws 0) 0) _ _ _ (omega arith) (omega (arith, size-bounds 128 (word ws 1)))
-  size-bound field.Choice e = cond-small (indexed (word ws 0)) _ _ _ (omega (arith, size-bounds 128 (word ws 1))) (omega arith)
-  size-bound field.ExternName e = omega (arith, extern-small (extern-inside pool ws e))
-  size-bound field.Reference e = omega (arith, reference-small ws)
-  size-bound field.Argument e = omega (arith, size-bounds 128 (word ws 0))
-  size-bound field.CoreSortIndex e = omega (arith, size-bounds 128 (word ws 1))
-  size-bound field.SortIndex e =
+  size-most : (f : Field) → flaw pool f ws ≡ Right → size f ws ≤ most f
+  unfolding size flaw
+  size-most field.Nothing e = omega arith
+  size-most (field.Fixed b) e = omega arith
+  size-most field.Primitive e = omega arith
+  size-most field.Value e = value-small ws 0
+  size-most field.Optional e = optional-small 1 ws (omega arith)
+  size-most field.OptionalThenZero e = omega (arith, optional-small 1 ws (omega arith))
+  size-most field.Result e = optional-small 2 ws (omega arith)
+  size-most field.Name e = name-small 0 (name-inside pool ws 0 e)
+  size-most field.Index e = size-bounds 128 (word ws 0) .1
+  size-most field.Async e = omega arith
+  size-most field.Flag e = omega arith
+  size-most field.Rep e = omega arith
+  size-most field.OptionalIndex e = cond-small (eqb (word ws 0) 0) _ _ _ (omega arith) (omega (arith, size-bounds 128 (word ws 1)))
+  size-most field.Choice e = cond-small (indexed (word ws 0)) _ _ _ (omega (arith, size-bounds 128 (word ws 1))) (omega arith)
+  size-most field.ExternName e = extern-small (extern-inside pool ws e)
+  size-most field.Reference e = reference-small ws
+  size-most field.Argument e = omega (arith, size-bounds 128 (word ws 0))
+  size-most field.CoreSortIndex e = omega (arith, size-bounds 128 (word ws 1))
+  size-most field.SortIndex e =
       let one = size-bounds 128 (word ws 1) in
       cond-small (eqb (word ws 0) 0) _ _ _ (omega arith) (omega arith)
 
--- beside a pool of document 01's size: a name has two words, and at most its length in five bytes and 65,536 bytes
+pub field-most : (pool : List ℕ) (f : Field) (ws : List ℕ) → length pool ≤ 65536 → flaw pool f ws ≡ Right → length (bytes pool f ws) ≤ most f
+field-most pool f ws h e = rw (size-right pool f ws e) (size-most pool ws h f e)
+
+-- by the words of the field: a name has two
+most-wide : (f : Field) → most f ≤ 1 + 32770 * wide f
+unfolding wide
+most-wide field.Nothing = omega arith
+most-wide (field.Fixed b) = omega arith
+most-wide field.Primitive = omega arith
+most-wide field.Value = omega arith
+most-wide field.Optional = omega arith
+most-wide field.OptionalThenZero = omega arith
+most-wide field.Result = omega arith
+most-wide field.Name = omega arith
+most-wide field.Index = omega arith
+most-wide field.Async = omega arith
+most-wide field.Flag = omega arith
+most-wide field.Rep = omega arith
+most-wide field.OptionalIndex = omega arith
+most-wide field.Choice = omega arith
+most-wide field.ExternName = omega arith
+most-wide field.Reference = omega arith
+most-wide field.Argument = omega arith
+most-wide field.CoreSortIndex = omega arith
+most-wide field.SortIndex = omega arith
+
 pub field-bound : (pool : List ℕ) (f : Field) (ws : List ℕ) → length pool ≤ 65536 → flaw pool f ws ≡ Right
     → length (bytes pool f ws) ≤ 1 + 32770 * wide f
-field-bound pool f ws h e = rw (size-right pool f ws e) (size-bound pool ws h f e)
+field-bound pool f ws h e = omega (arith, field-most pool f ws h e, most-wide f)

@@ -1,11 +1,11 @@
--- A row that a section's table takes: it is written as its production says, its size is the length of its bytes and below 2^32,
--- and its bytes are bytes. What is asked of the table is that its lines agree, and a test that is computed over all of them.
-use Prim.Native.Nat.{ℕ, zero, suc, _+_, _^_, _≤_}
+-- A row that a section's table takes: it is written as its production says, its size is the length of its bytes and no larger than
+-- can be, and its bytes are bytes. What is asked of the table is that its lines agree, and a test that is computed over all of them.
+use Prim.Native.Nat.{ℕ, zero, suc, _+_, _^_}
 use mathlib.Core.Path.{_≡_, refl, sym, ap, _∙_}
 use mathlib.Core.Bool.{Bool, true, false, _&&_, cond}
 use mathlib.Core.List.{List, [], _∷_, _++_}
-use borrow.Author.Tests.{ltb-true, leb-true}
-use lib.Dec.{eqb, ltb, leb}
+use borrow.Author.Tests.{ltb-true}
+use lib.Dec.{eqb, ltb}
 use lib.ListN.{length, drop}
 use Rattle.numbers.specs.Bytes.{Bytes}
 use Rattle.fields.specs.declared.Field.{Field}
@@ -28,10 +28,11 @@ use Rattle.writing.specs.Write.{bytesAt, written}
 use Rattle.writing.proofs.AnswerLaws.{Sized}
 use Rattle.writing.proofs.ByteLaws.{ByteList, none, append-bytes, to-bytes, of-bytes, drop-words, Byte, field-bytes}
 use Rattle.fields.specs.inside.Stages.{countedFields, later}
+use Rattle.writing.proofs.LargestLaws.{both, bounded, no-larger}
 use Rattle.writing.proofs.PutLaws.{allFields, judged-along, shape-written}
 use Rattle.writing.specs.Agree.{Agrees, All, Row}
 use Rattle.writing.proofs.TableLaws.{as-production}
-use Rattle.writing.proofs.WholeLaws.{accepted, size-is-length, never-too-big}
+use Rattle.writing.proofs.WholeLaws.{accepted, size-is-length}
 use Rattle.numbers.proofs.Impossible.{impossible}
 
 -- ---- the test
@@ -62,19 +63,15 @@ abbrev smalls : List Field → Bool
 smalls [] = true
 smalls (f ∷ fs) = small f && smalls fs
 
--- and a group that is counted has a word
+-- and no row is larger than the largest
 abbrev pub sound : Shape → Bool
-sound s = smalls (opening s) && (smalls (group s) && (smalls (closing s) && cond (s .counted) (leb 1 (widths (group s))) true))
+sound s = smalls (opening s) && (smalls (group s) && (smalls (closing s) && bounded s))
 
 unfoldable pub every : (Shape → Bool) → List Line → Bool
 every p [] = true
 every p (l ∷ ls) = p (l .shape) && every p ls
 
 -- ---- what it says
-
-both : (a b : Bool) → (a && b) ≡ true → (a ≡ true) × (b ≡ true)
-both true b e = (refl, e)
-both false b e = impossible cc
 
 join : (a b : Bool) → a ≡ true → b ≡ true → (a && b) ≡ true
 join true b e f = f
@@ -125,9 +122,9 @@ smalls-repeated (suc n) g e = smalls-append g (repeated n g) e (smalls-repeated 
 -- all the fields of a row
 sound-fields : (s : Shape) (row : List ℕ) (start : ℕ) → sound s ≡ true → smalls (allFields s row start) ≡ true
 sound-fields s row start e =
-    let a = both (smalls (opening s)) (smalls (group s) && (smalls (closing s) && cond (s .counted) (leb 1 (widths (group s))) true)) e in
-    let b = both (smalls (group s)) (smalls (closing s) && cond (s .counted) (leb 1 (widths (group s))) true) (a .1) in
-    let c = both (smalls (closing s)) (cond (s .counted) (leb 1 (widths (group s))) true) (b .1) in
+    let a = both (smalls (opening s)) (smalls (group s) && (smalls (closing s) && bounded s)) e in
+    let b = both (smalls (group s)) (smalls (closing s) && bounded s) (a .1) in
+    let c = both (smalls (closing s)) (bounded s) (b .1) in
     smalls-append (opening s) (later s n) (a .0) (go (s .counted) (b .0) (c .0))
   where
     n : ℕ
@@ -138,12 +135,11 @@ sound-fields s row start e =
     go true g c = smalls-append (repeated n (group s)) (closing s) (smalls-repeated n (group s) g) c
     go false g c = c
 
-sound-group : (s : Shape) → sound s ≡ true → s .counted ≡ true → 1 ≤ widths (group s)
-sound-group s e c =
-    let a = both (smalls (opening s)) (smalls (group s) && (smalls (closing s) && cond (s .counted) (leb 1 (widths (group s))) true)) e in
-    let b = both (smalls (group s)) (smalls (closing s) && cond (s .counted) (leb 1 (widths (group s))) true) (a .1) in
-    let d = both (smalls (closing s)) (cond (s .counted) (leb 1 (widths (group s))) true) (b .1) in
-    leb-true 1 (widths (group s)) (ap (λ t. cond t (leb 1 (widths (group s))) true) (sym c) ∙ d .1)
+sound-bounded : (s : Shape) → sound s ≡ true → bounded s ≡ true
+sound-bounded s e =
+    let a = both (smalls (opening s)) (smalls (group s) && (smalls (closing s) && bounded s)) e in
+    let b = both (smalls (group s)) (smalls (closing s) && bounded s) (a .1) in
+    both (smalls (closing s)) (bounded s) (b .1) .1
 
 -- the bytes of fields that are right
 module _ (pool : List ℕ) (fp : Bytes pool) where
@@ -180,7 +176,7 @@ row-of ls agree sounds row pool size e =
     record {
       as-production = rw (a .is) (as-production ls agree (word row 0) s (a .is) pool row (k .end) size (k .judges));
       size-is-length = rw (a .is) (size-is-length k);
-      below-32-bits = never-too-big k (sound-group s t);
+      no-larger = no-larger s (sound-bounded s t) row pool size (sym (ap (λ f. measuredRow f row pool) (a .is)) ∙ e);
       are-bytes = λ fw fp. rw (a .is) (bytes-of s k t fw fp);
     }
   where

@@ -1,13 +1,12 @@
--- What holds of every row that is accepted: its size is the length of its bytes, its walk reaches its end, and no size is too big.
-use Prim.Native.Nat.{ℕ, suc, _+_, _*_, _^_, _≤_, _<_}
-use native.Mathlib.Nat.{mul-le-mul-left}
+-- What holds of every row that is accepted: its size is the length of its bytes, and its walk reaches its end.
+use Prim.Native.Nat.{ℕ, _+_, _*_}
 use native.Mathlib.Omega.{arith}
-use mathlib.Core.Path.{_≡_, refl, sym, ap, _∙_, subst}
+use mathlib.Core.Path.{_≡_, refl, sym, ap, _∙_}
 use mathlib.Core.Bool.{Bool, true, false, cond}
 use mathlib.Core.List.{List}
 use borrow.Author.Tests.{le-ltb, eq-eqb, ne-eqb}
 use lib.Dec.{eqb, ltb}
-use lib.ListN.{length, drop, length-append}
+use lib.ListN.{length, drop}
 use Rattle.fields.specs.declared.Refusal.the-variants as refusal
 use Rattle.fields.specs.declared.Leaf.the-variants.{Fine}
 use Rattle.fields.specs.declared.Answer.the-variants.{Size, Refused}
@@ -16,15 +15,15 @@ use Rattle.fields.specs.declared.Found.the-variants.{Is, Not}
 use Rattle.fields.specs.declared.Shape.{Shape}
 use Rattle.fields.specs.Words.{word, wide}
 use Rattle.writing.specs.Judge.{judge}
-use Rattle.fields.specs.inside.Run.{along, makes, Under}
+use Rattle.fields.specs.inside.Run.{along, makes}
 use Rattle.writing.specs.Row.{measuredFound, measuredRow}
 use Rattle.fields.specs.Shape.{opening, group, closing, repeated, widths, rowWidth}
 use Rattle.writing.specs.Write.{bytesAt, judged, written, sized, measured}
 use Rattle.writing.proofs.AnswerLaws.{Sized, measured-sized}
 use Rattle.fields.specs.inside.Stages.{countedFields, later}
-use Rattle.writing.proofs.PutLaws.{allFields, row-groups, judged-along, shape-written}
-use Rattle.writing.proofs.StagedLaws.{along-ends, along-bound}
-use Rattle.fields.proofs.WidthLaws.{widths-append, repeated-widths, repeated-length}
+use Rattle.writing.proofs.PutLaws.{allFields, judged-along, shape-written}
+use Rattle.writing.proofs.StagedLaws.{along-ends}
+use Rattle.fields.proofs.WidthLaws.{widths-append, repeated-widths}
 use Rattle.numbers.proofs.Impossible.{impossible}
 
 -- a row that is accepted has a shape, and a size by it
@@ -49,10 +48,10 @@ accepted found row pool size e = rows (ltb 16384 (length row)) (ltb 65536 (lengt
     rows false false true e = impossible cc
     rows false false false e = has found e
 
--- a row that has a size by its shape, and no number too big, is accepted
-pub sized-accepted : (s : Shape) (row pool : List ℕ) (size : ℕ) → Sized s row 1 pool size → size < 2 ^ 32 → measuredRow (Is s) row pool ≡ Size size
+-- a row that has a size by its shape is accepted
+pub sized-accepted : (s : Shape) (row pool : List ℕ) (size : ℕ) → Sized s row 1 pool size → measuredRow (Is s) row pool ≡ Size size
 unfolding measuredRow measured sized rowWidth
-sized-accepted s row pool size k h =
+sized-accepted s row pool size k =
     let some : length row ≡ 0 → ⊥ = λ z. omega (arith, k .width) in
     simp (
       le-ltb _ _ (k .short),
@@ -60,10 +59,9 @@ sized-accepted s row pool size k h =
       ne-eqb _ _ some,
       eq-eqb _ _ (k .width),
       k .judges,
-      le-ltb 4294967295 size (omega arith),
     )
 
--- all fields of a row have as many words as its width says, and are few where a group has a word
+-- all fields of a row have as many words as its width says
 all-widths : (s : Shape) (row : List ℕ) (start : ℕ) → start + widths (allFields s row start) ≡ rowWidth s row start
 unfolding rowWidth widths wide
 all-widths s row start =
@@ -85,22 +83,6 @@ pub judged-ends : (s : Shape) (pool row : List ℕ) (start e m : ℕ) → judged
 judged-ends s pool row start e m h =
     along-ends pool (allFields s row start) (drop start row) start 0 e m (sym (judged-along s pool row start) ∙ h) .0 ∙ all-widths s row start
 
-few-fields : (s : Shape) (row : List ℕ) (start : ℕ) → (s .counted ≡ true → 1 ≤ widths (group s)) → rowWidth s row start ≡ length row
-    → length row ≤ 16384 → length (allFields s row start) ≤ 32774
-few-fields s row start worded width short = go (s .counted) refl
-  where
-    at : ℕ
-    at = start + widths (opening s)
-
-    go : (b : Bool) → s .counted ≡ b → suc (suc (suc (suc (length (cond b (countedFields s (word row at)) (closing s)))))) ≤ 32774
-    go true e =
-        let n = word row at in
-        let w = worded e in
-        let g = row-groups s row start e in
-        let m : n * 1 ≤ n * widths (group s) = mul-le-mul-left n w in
-        omega (arith, length-append (repeated n (group s)) (closing s), repeated-length (group s) n)
-    go false e = omega arith
-
 module _ {s : Shape} {row : List ℕ} {start : ℕ} {pool : List ℕ} {size : ℕ} (k : Sized s row start pool size) where
   all : along (judge pool) (allFields s row start) (drop start row) start 0 ≡ Fine (k .end) size
   all = sym (judged-along s pool row start) ∙ k .judges
@@ -116,13 +98,3 @@ module _ {s : Shape} {row : List ℕ} {start : ℕ} {pool : List ℕ} {size : �
   -- the walk reaches the row's end
   pub reaches-end : k .end ≡ length row
   reaches-end = judged-ends s pool row start (k .end) size (k .judges) ∙ k .width
-
-  -- no size is too big, where a group has a word
-  pub never-too-big : (s .counted ≡ true → 1 ≤ widths (group s)) → size < 2 ^ 32
-  never-too-big worded =
-      let fs = allFields s row start in
-      let u : Under (Fine (k .end) size) (start + widths fs) (0 + (length fs + 32770 * widths fs)) =
-      subst (λ l. Under l (start + widths fs) (0 + (length fs + 32770 * widths fs))) all
-      (along-bound pool fs (drop start row) start 0 (k .small)) in
-      let h = u .1 in
-      omega (arith, all-widths s row start, k .width, k .short, few-fields s row start worded (k .width) (k .short))

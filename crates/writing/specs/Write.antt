@@ -34,12 +34,12 @@ judged s pool row start = walk (writer pool) (plan s) (drop start row) start 0
 abbrev pub written : Shape → List ℕ → List ℕ → ℕ → List ℕ
 written s pool row start = outs (writer pool) (plan s) start (drop start row)
 
--- the size of what was judged, if it is not TOO_BIG
+-- the size of what was judged
 unfoldable pub sized : Leaf → Answer
-sized (Fine e m) = cond (ltb 4294967295 m) (Refused refusal.TooBig 0) (Size m)
+sized (Fine e m) = Size m
 sized (Bad w j) = Refused w j
 
--- LIMIT, then the row's length, then the fields from left to right, then TOO_BIG
+-- LIMIT, then the row's length, then the fields from left to right
 unfoldable pub measured : Shape → List ℕ → ℕ → List ℕ → Answer
 measured s row start pool =
     cond (ltb rowWords (length row)) (Refused refusal.Limit 0)

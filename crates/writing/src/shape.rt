@@ -41,12 +41,7 @@ fn measure_fields(s: Shape, row: &[u32], start: usize, pool: &[u8]) -> Answer
     ensures { λ r. ⌜ r ≡ sized (judged s (now (pool .entry)) (now (row .entry)) start) ⌝ }
 {
     match judge_shape(s, pool, row, start) {
-        Leaf::Fine(_, size) => {
-            if 4294967295 < size {
-                return Answer::Refused(Refusal::TooBig, 0);
-            }
-            Answer::Size(size)
-        }
+        Leaf::Fine(_, size) => Answer::Size(size),
         Leaf::Bad(why, place) => Answer::Refused(why, place),
     }
 }

@@ -16,7 +16,7 @@ sub-if1 c = omega (arith, number-size (c .before .before .before .args .count))
 returns : tie.Need-returns
 returns c =
     let a = c .before .before .before .before .args in
-    sym (frame-too-big (a .family) (a .count) _ _ (c .before .unsigned-size .ensures) (c .if1 .taken))
+    sym (frame-too-big (a .family) (a .count) _ _ (c .before .unsigned-size .ensures) (omega (arith, c .if1 .taken)))
 
 cast-unsigned-size : tie.Need-cast-unsigned-size
 cast-unsigned-size c = omega (arith, number-size (c .before .before .before .before .args .count))

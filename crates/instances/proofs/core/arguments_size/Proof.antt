@@ -40,7 +40,7 @@ add-two c =
     omega (arith, unsigned-size .ensures, size-bounds 128 (word (now (args .row)) (loop .at + 2)))
 
 returns : tie.Need-returns Inv-loop μ-loop
-returns c = (λ h. absurd (omega arith), omega arith)
+returns c = λ h. absurd (omega arith)
 
 add-made : tie.Need-add-made Inv-loop μ-loop
 add-made c =
@@ -81,7 +81,7 @@ returns-2 : tie.Need-returns-2 Inv-loop μ-loop
 returns-2 c =
     let loop-test = c .loop-test in
     let loop = c .before .loop in
-    (λ h. going-end (loop .due) (loop .inv .0) (loop-test .left), omega arith)
+    λ h. going-end (loop .due) (loop .inv .0) (loop-test .left)
 
 pub arguments-size-spec : {M : Type 1} → statement M
 arguments-size-spec =

@@ -73,13 +73,13 @@ loop-again c =
     (k, (omega arith, k .small))
 
 returns-3 : tie.Need-returns-3 Inv-loop μ-loop
-returns-3 c = (λ h. going-end (c .before .loop .due) (c .before .loop .inv .0) (c .loop-test .left), omega arith)
+returns-3 c = λ h. going-end (c .before .loop .due) (c .before .loop .inv .0) (c .loop-test .left)
 
 pub cases-size-spec : {M : Type 1} → statement M
 cases-size-spec =
     tie.close
     (tie.spec Inv-loop μ-loop loop-holds (λ c. omega arith) (λ c. omega arith) (λ c. omega arith) (λ c. omega arith)
     (λ c. omega arith) (search needs) (λ c. omega arith) (λ c. omega arith) (λ c. omega arith) (λ c. omega arith)
-    (λ c. omega arith) (λ c. omega arith) (search needs) (λ c. (λ h. absurd (omega arith), omega arith))
-    (λ c. (λ h. absurd (omega arith), omega arith)) add-made add-made-2 add-made-3 (λ c. omega arith)
+    (λ c. omega arith) (λ c. omega arith) (search needs) (λ c. λ h. absurd (omega arith))
+    (λ c. λ h. absurd (omega arith)) add-made add-made-2 add-made-3 (λ c. omega arith)
     (λ c. omega arith) (λ c. omega arith) loop-again returns-3)

@@ -50,7 +50,7 @@ returns-2 c =
     let pre = at-args .pre in
     let row = now (args .row) in
     λ h lead. counted-known lead field.Name field.Nothing refl row (now (args .pool)) (name-element (now (args .pool))) (pre .0) (pre .1) (if2 .taken)
-    (ap (λ (m : ℕ). 1 + m) (unsigned-size .ensures)) (labels-size .ensures .0 h) (labels-size .ensures .1)
+    (ap (λ (m : ℕ). 1 + m) (unsigned-size .ensures)) (labels-size .ensures h)
 
 pub labels-row-size-spec : {M : Type 1} → statement M
 labels-row-size-spec =

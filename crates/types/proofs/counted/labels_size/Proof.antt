@@ -49,11 +49,11 @@ loop-again c =
     (k, (omega arith, k .small))
 
 returns-2 : tie.Need-returns-2 Inv-loop μ-loop
-returns-2 c = (λ h. going-end (c .before .loop .due) (c .before .loop .inv .0) (c .loop-test .left), omega arith)
+returns-2 c = λ h. going-end (c .before .loop .due) (c .before .loop .inv .0) (c .loop-test .left)
 
 pub labels-size-spec : {M : Type 1} → statement M
 labels-size-spec =
     tie.close
     (tie.spec Inv-loop μ-loop loop-holds (λ c. omega arith) (λ c. omega arith) (λ c. omega arith) (λ c. omega arith)
-    (λ c. omega arith) (search needs) (λ c. (λ h. absurd (omega arith), omega arith)) add-made (λ c. omega arith)
+    (λ c. omega arith) (search needs) (λ c. λ h. absurd (omega arith)) add-made (λ c. omega arith)
     (λ c. omega arith) (λ c. omega arith) loop-again returns-2)

@@ -50,7 +50,7 @@ returns-2 c =
     let pre = at-args .pre in
     let row = now (args .row) in
     λ h. counted-known 0x72 field.Name field.Value refl row (now (args .pool)) (labelled-element (now (args .pool))) (pre .0) (pre .1) (if2 .taken)
-    (ap (λ (m : ℕ). 1 + m) (unsigned-size .ensures)) (fields-size .ensures .0 h) (fields-size .ensures .1)
+    (ap (λ (m : ℕ). 1 + m) (unsigned-size .ensures)) (fields-size .ensures h)
 
 pub record-size-spec : {M : Type 1} → statement M
 record-size-spec =

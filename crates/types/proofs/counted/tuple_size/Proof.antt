@@ -50,7 +50,7 @@ returns-2 c =
     let pre = at-args .pre in
     let row = now (args .row) in
     λ h pool small. counted-known 0x6f field.Value field.Nothing refl row pool (value-element pool) small pre (if2 .taken)
-    (ap (λ (m : ℕ). 1 + m) (unsigned-size .ensures)) (values-size .ensures .0 h pool) (values-size .ensures .1)
+    (ap (λ (m : ℕ). 1 + m) (unsigned-size .ensures)) (values-size .ensures h pool)
 
 pub tuple-size-spec : {M : Type 1} → statement M
 tuple-size-spec =

@@ -51,7 +51,7 @@ returns-2 c =
     let row = now (args .row) in
     λ h. counted-known 0x71 field.Name field.OptionalThenZero refl row (now (args .pool)) (case-element (now (args .pool)))
     (pre .0) (pre .1) (if2 .taken)
-    (ap (λ (m : ℕ). 1 + m) (unsigned-size .ensures)) (cases-size .ensures .0 h) (cases-size .ensures .1)
+    (ap (λ (m : ℕ). 1 + m) (unsigned-size .ensures)) (cases-size .ensures h)
 
 pub variant-size-spec : {M : Type 1} → statement M
 variant-size-spec =

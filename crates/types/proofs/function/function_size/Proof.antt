@@ -52,7 +52,7 @@ returns-3 c =
     λ h. function-known (now (a .row)) (now (a .pool)) (pre .0) (pre .1)
     (omega (arith, c .before .before .before .before .before .before .before .if3 .taken)) (omega (arith, mid .before .if2 .left))
     result (omega (arith, c .before .unsigned-size .ensures))
-    (c .fields-size .ensures .0 h) (c .fields-size .ensures .1)
+    (c .fields-size .ensures h)
 
 pub function-size-spec : {M : Type 1} → statement M
 function-size-spec =

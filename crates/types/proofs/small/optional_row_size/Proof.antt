@@ -9,7 +9,7 @@ use Rattle.types.proofs.small.optional_row_size.Tie as tie
 returns : tie.Need-returns
 returns c =
     let one = c .before .optional-size .ensures in
-    λ h. optional-row (now (c .before .before .before .before .before .before .args .row)) (one .0 (c .if2 .taken)) (one .1)
+    λ h. optional-row (now (c .before .before .before .before .before .before .args .row)) (one .0 (c .if2 .taken))
     (c .before .before .before .before .if1 .taken)
 
 pub optional-row-size-spec : {M : Type 1} → statement M

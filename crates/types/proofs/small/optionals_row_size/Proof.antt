@@ -11,7 +11,7 @@ returns c =
     let one = c .before .before .before .before .before .optional-size .ensures in
     let more = c .before .before .optional-size2 .ensures in
     λ h. optionals-row (now (c .before .before .before .before .before .before .before .before .before .before .args .row))
-    (one .0 (c .before .if2 .taken)) (one .1) (more .0 (c .if3 .taken)) (more .1)
+    (one .0 (c .before .if2 .taken)) (more .0 (c .if3 .taken))
     (c .before .before .before .before .before .before .before .before .if1 .taken)
 
 pub optionals-row-size-spec : {M : Type 1} → statement M

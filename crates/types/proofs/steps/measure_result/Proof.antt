@@ -8,7 +8,7 @@ use Rattle.types.proofs.steps.measure_result.Statement.{statement}
 use Rattle.types.proofs.steps.measure_result.Tie as tie
 
 returns : tie.Need-returns
-returns c = sym (result-measured (c .before .optional-size .ensures .0 (c .if1 .taken)) (c .before .optional-size .ensures .1))
+returns c = sym (result-measured (c .before .optional-size .ensures .0 (c .if1 .taken)))
 
 returns-2 : tie.Need-returns-2
 returns-2 c =

@@ -49,7 +49,7 @@ returns-3 c =
     (c .before .before .before .before .if5 .came) in
     λ h. params-known (a .first) (now (a .words)) (now (a .pool)) (mid .before .if1 .left) (mid .if2 .left)
     (c .before .before .before .before .before .if4 .taken) (λ i. head i + c .before .before .unsigned-size .ensures i)
-    (c .fields-size .ensures .0 h) (c .fields-size .ensures .1)
+    (c .fields-size .ensures h)
 
 pub params-size-spec : {M : Type 1} → statement M
 params-size-spec =
