@@ -36,10 +36,9 @@ int main(void) {
     show("list of limits", tb_row(state, list, 3, pool, POOL, body, sizeof body));
 
     /* Type 2, in steps: an async function of pressure, u32, to bool (primitive 0). */
-    static const uint32_t params[] = {1, 14, 8, 0, 6};
+    static const uint32_t head[] = {1, 1, 14, 8, 0, 6};
     show("open", tb_open(state, body, sizeof body));
-    show("async", tb_async(state, 1, body, sizeof body));
-    show("params", tb_params(state, params, 5, pool, POOL, body, sizeof body));
+    show("head", tb_head(state, head, 6, pool, POOL, body, sizeof body));
     show("result", tb_result(state, 0, 0, body, sizeof body));
 
     tb_reply finished = tb_finish(state, body, sizeof body, out, sizeof out);

@@ -44,7 +44,7 @@ typedef struct {
 } tb_reply;
 
 /* A section's state is five numbers: family (2 core instances, 5 instances, 7 types, 8 canonicals, 10 imports), bytes of the body used, entries,
- * phase (0 closed, 1 opened, 2 async given, 3 params given), and the place where an open function starts (0 when closed).
+ * phase (0 closed, 1 opened, 2 headed), and the place where an open function starts (0 when closed).
  * A new section is { family, 0, 0, 0, 0 }. */
 
 /* A whole sheet: its rows' bytes at the front of body, the finished section at the front of out. */
@@ -63,12 +63,10 @@ tb_reply tb_row(uint64_t state[5], const uint32_t *row, size_t row_words, const 
 /* Opens a function type: one entry more, nothing written yet. */
 tb_reply tb_open(uint64_t state[5], uint8_t *body, size_t body_size);
 
-/* The function's first byte: a is 0, or 1 for an async function. */
-tb_reply tb_async(uint64_t state[5], uint32_t a, uint8_t *body, size_t body_size);
-
-/* The function's parameters: n, and n of (name start, name length, value type's two words). */
-tb_reply tb_params(uint64_t state[5], const uint32_t *words, size_t words_size, const uint8_t *pool, size_t pool_size,
-                   uint8_t *body, size_t body_size);
+/* The function's head: a, which is 0, or 1 for an async function; n; and n of (name start, name length, value type's two words), the
+ * parameters. Its words are those of a function's row, without the kind before and the result behind them. */
+tb_reply tb_head(uint64_t state[5], const uint32_t *words, size_t words_size, const uint8_t *pool, size_t pool_size,
+                 uint8_t *body, size_t body_size);
 
 /* The function's result, a value type's two words or (2,0) for none. It closes the entry. */
 tb_reply tb_result(uint64_t state[5], uint32_t tag, uint32_t x, uint8_t *body, size_t body_size);

@@ -67,6 +67,7 @@ const RUNS: &[Run] = &[
     ("inputs of about 1 GiB", |_| long_inputs()),
     ("calls in damaged sequences of steps", |seed| steps(&mut Random::new(seed), 250_000)),
     ("a call on every state of small numbers", |_| small_states()),
+    ("every head of up to six small words, in each phase", |_| small_heads()),
     ("small rows of every kind, ends of UTF-8's ranges", |_| small_rows()),
     ("rows and pools at their limits", |_| largest_rows()),
     ("sections of about 4 GiB", |_| wide_sections()),
@@ -687,8 +688,7 @@ pub fn readings(rng: &mut Random, count: u64) -> Result<Tally, String> {
 enum Call {
     Row { row: Vec<u32>, pool: Vec<u8> },
     Open,
-    Async { a: u32 },
-    Params { words: Vec<u32>, pool: Vec<u8> },
+    Head { words: Vec<u32>, pool: Vec<u8> },
     Result { tag: u32, x: u32 },
     Abandon,
     Finish { room: usize },
@@ -701,8 +701,7 @@ impl Call {
         match self {
             Call::Row { .. } => "row",
             Call::Open => "open",
-            Call::Async { .. } => "async",
-            Call::Params { .. } => "params",
+            Call::Head { .. } => "head",
             Call::Result { .. } => "result",
             Call::Abandon => "abandon",
             Call::Finish { .. } => "finish",
@@ -713,7 +712,7 @@ impl Call {
     /// The words and the pool that the call is given, if it is given some.
     fn lists(&mut self) -> Option<(&mut Vec<u32>, &mut Vec<u8>)> {
         match self {
-            Call::Row { row: words, pool } | Call::Params { words, pool } => Some((words, pool)),
+            Call::Row { row: words, pool } | Call::Head { words, pool } => Some((words, pool)),
             _ => None,
         }
     }
@@ -760,8 +759,7 @@ impl Pair<'_> {
         match call {
             Call::Row { row, pool } => section.row(row, pool, body),
             Call::Open => section.open(body),
-            Call::Async { a } => section.make_async(*a, body),
-            Call::Params { words, pool } => section.params(words, pool, body),
+            Call::Head { words, pool } => section.head(words, pool, body),
             Call::Result { tag, x } => section.result(*tag, *x, body),
             Call::Abandon => section.abandon(body),
             Call::Finish { .. } | Call::Set { .. } => Ok(0),
@@ -774,8 +772,7 @@ impl Pair<'_> {
         match call {
             Call::Row { row, pool } => section.row(row, pool, body),
             Call::Open => section.open(body),
-            Call::Async { a } => section.make_async(*a, body),
-            Call::Params { words, pool } => section.params(words, pool, body),
+            Call::Head { words, pool } => section.head(words, pool, body),
             Call::Result { tag, x } => section.result(*tag, *x, body),
             Call::Abandon => section.abandon(body),
             Call::Finish { .. } | Call::Set { .. } => Ok(0),
@@ -883,9 +880,12 @@ fn some_row(rng: &mut Random, scope: &Scope, family: u64) -> Call {
 fn some_function(rng: &mut Random, scope: &Scope) -> Vec<Call> {
     let mut pool = Vec::new();
     let row = if rng.one_in(8) { row_of_damaged_names(rng, 15, &mut pool) } else { valid_row(rng, 15, &mut pool) };
-    let mut words = row[2..row.len() - 2].to_vec();
+    let mut words = row[1..row.len() - 2].to_vec();
     if rng.one_in(6) {
         damage_row(rng, scope, &mut words, &pool);
+    }
+    if rng.one_in(16) && !words.is_empty() {
+        words[0] = rng.number();
     }
     if rng.one_in(12) {
         damage_pool(rng, &mut pool);
@@ -893,18 +893,14 @@ fn some_function(rng: &mut Random, scope: &Scope) -> Vec<Call> {
     if rng.one_in(4000) {
         words.resize(16_383 + rng.below(4), 0);
     }
-    let mut calls = vec![Call::Open];
-    if rng.one_in(2) {
-        calls.push(Call::Async { a: if rng.one_in(8) { rng.number() } else { row[1] } });
-    }
-    calls.push(Call::Params { words, pool });
+    let mut calls = vec![Call::Open, Call::Head { words, pool }];
     let (mut tag, mut x) = (row[row.len() - 2], row[row.len() - 1]);
     if rng.one_in(6) {
         (tag, x) = (rng.below(4) as u32, rng.number());
     }
     calls.push(Call::Result { tag, x });
     if rng.one_in(4) {
-        calls.truncate(1 + rng.below(3));
+        calls.truncate(1 + rng.below(2));
         calls.push(Call::Abandon);
     }
     calls
@@ -954,7 +950,8 @@ fn some_steps(rng: &mut Random, scope: &Scope) -> StepsCase {
     if rng.one_in(3) {
         state[1] = rng.below(body_room + 1) as u64;
         state[2] = 1 + rng.below(4) as u64;
-        state[3] = if family == 7 || rng.one_in(8) { rng.below(4) as u64 } else { 0 };
+        let phases = if rng.one_in(16) { 4 } else { 3 };
+        state[3] = if family == 7 || rng.one_in(8) { rng.below(phases) as u64 } else { 0 };
         state[4] = if state[3] == 0 { 0 } else { rng.below(state[1] as usize + 1) as u64 };
     }
     for _ in 0..rng.below(8).saturating_sub(6) {
@@ -1063,9 +1060,8 @@ fn plain_calls() -> Vec<Call> {
         Call::Row { row: vec![18, 300, 1, 0, 1, 7], pool: name() },
         Call::Row { row: vec![21, 0], pool: Vec::new() },
         Call::Open,
-        Call::Async { a: 1 },
-        Call::Params { words: vec![0], pool: Vec::new() },
-        Call::Params { words: vec![1, 0, 1, 0, 12], pool: name() },
+        Call::Head { words: vec![0, 0], pool: Vec::new() },
+        Call::Head { words: vec![1, 1, 0, 1, 0, 12], pool: name() },
         Call::Result { tag: 0, x: 12 },
         Call::Result { tag: 1, x: u32::MAX },
         Call::Result { tag: 2, x: 0 },
@@ -1113,7 +1109,8 @@ fn every_state(family: u64, lists: [&[u64]; 4]) -> Vec<[u64; 5]> {
 /// Words of many entries: the family, those before the entries, an entry's, how many entries, and those behind.
 type ManyEntries = (u64, Vec<u32>, Vec<u32>, usize, &'static [u32]);
 
-/// Rows and params of as many words as there may be, and of one entry more. Wish 8: a row has no more than 8,191 names of
+/// Rows and heads of as many words as there may be, and of one entry more; what begins with 1 and a count is a record's row and
+/// an async function's head. Wish 8: a row has no more than 8,191 names of
 /// 65,536 bytes, so none of these is TOO_BIG.
 fn most_entries() -> Vec<ManyEntries> {
     const NAME: [u32; 2] = [0, 65_536];
@@ -1127,8 +1124,9 @@ fn most_entries() -> Vec<ManyEntries> {
         (7, vec![2, 4095], named(&[1, u32::MAX]), 4095, &[]),
         (7, vec![6, 8191], vec![1, u32::MAX], 8191, &[]),
         (7, vec![15, 1, 4094], named(&[1, u32::MAX]), 4094, &[1, u32::MAX]),
-        (7, vec![4095], named(&[0, 12]), 4095, &[]),
-        (7, vec![4096], named(&[0, 12]), 4096, &[]),
+        (7, vec![1, 4095], named(&[0, 12]), 4095, &[]),
+        (7, vec![1, 4096], named(&[0, 12]), 4096, &[]),
+        (7, vec![0, 4095], named(&[1, u32::MAX]), 4095, &[]),
         (10, [vec![17], named(&options())].concat(), vec![2, 1, u32::MAX], 1, &[]),
         (8, vec![256, u32::MAX, u32::MAX, 8190], vec![8, u32::MAX], 8190, &[]),
         (8, vec![257, u32::MAX, 8190], vec![3, u32::MAX], 8190, &[]),
@@ -1142,7 +1140,7 @@ fn most_entries() -> Vec<ManyEntries> {
     ]
 }
 
-/// Rows and params of as many words, names and pool bytes as there may be, and of one more, beside a small body.
+/// Rows and heads of as many words, names and pool bytes as there may be, and of one more, beside a small body.
 pub fn largest_rows() -> Result<Tally, String> {
     let mut tally = Tally::default();
     for pool_size in [65_536, 65_537] {
@@ -1151,7 +1149,7 @@ pub fn largest_rows() -> Result<Tally, String> {
             let pool = vec![b'p'; pool_size];
             let row = Call::Row { row: words.clone(), pool: pool.clone() };
             let calls = match family {
-                7 => vec![row.clone(), Call::Open, Call::Params { words, pool }, row],
+                7 => vec![row.clone(), Call::Open, Call::Head { words, pool }, row],
                 _ => vec![row],
             };
             let case = StepsCase { state: [family, 0, 0, 0, 0], body_room: 16, calls };
@@ -1217,6 +1215,26 @@ pub fn small_rows() -> Result<Tally, String> {
     every_list(&ENDS_OF_UTF8, 4, &mut |name| {
         let row = vec![7, 1, 0, name.len() as u32];
         one_call(7, Call::Row { row, pool: name.to_vec() }, &mut tally)
+    })?;
+    Ok(tally)
+}
+
+/// Every head of up to six words of a few numbers, on an opened function and in the phases before and after that, beside a pool
+/// that is text and one that is not, in a body with three bytes left, which no parameter fits, and in one that has room.
+pub fn small_heads() -> Result<Tally, String> {
+    let mut tally = Tally::default();
+    every_list(&[0, 1, 2, 12, 0xff], 6, &mut |numbers| {
+        let words: Vec<u32> = numbers.iter().map(|number| if *number == 0xff { u32::MAX } else { u32::from(*number) }).collect();
+        for (phase, pool, body_room) in
+            [(0, b"ab", 40), (1, b"ab", 40), (1, b"ab", 6), (1, b"a\xc2", 40), (2, b"ab", 40), (3, b"ab", 40)]
+        {
+            let calls = vec![Call::Head { words: words.clone(), pool: pool.to_vec() }];
+            let case = StepsCase { state: [7, 3, 1, phase, 2 * phase.min(1)], body_room, calls };
+            if case.run(&mut tally).is_some() {
+                return Err(case.smallest());
+            }
+        }
+        Ok(())
     })?;
     Ok(tally)
 }

@@ -19,11 +19,10 @@ const TYPES: u64 = 7;
 const CANONICALS: u64 = 8;
 const IMPORTS: u64 = 10;
 
-// A section's phases: nothing open; function opened; async given; params given.
+// A section's phases: nothing open; function opened; head given. There is no other.
 const CLOSED: u64 = 0;
 const OPENED: u64 = 1;
-const ASYNC_GIVEN: u64 = 2;
-const PARAMS_GIVEN: u64 = 3;
+const HEADED: u64 = 2;
 
 /// A refusal with the value that the table of numbers returns with it.
 fn refused<T>(why: Refusal, value: usize) -> Result<T, Refused> {
@@ -389,10 +388,15 @@ impl Fields<'_> {
         Ok(())
     }
 
+    /// A function's head: a, n, n of (N,V).
+    fn function_head(&mut self) -> Result<(), Refused> {
+        self.function_lead()?;
+        self.list(Self::named_value)
+    }
+
     /// Kind 15, function: a, n, n of (N,V), O.
     fn function(&mut self) -> Result<(), Refused> {
-        self.function_lead()?;
-        self.list(Self::named_value)?;
+        self.function_head()?;
         self.function_result()
     }
 
@@ -560,7 +564,7 @@ impl Section {
 
     /// LIMIT: what a state beside its buffer may not be.
     fn judge_state(&self, body_room: usize) -> Result<(), Refused> {
-        let not_held = self.count > MOST || self.phase > PARAMS_GIVEN;
+        let not_held = self.count > MOST || self.phase > HEADED;
         let past_buffer = self.used > body_room as u64;
         let broken_entry = if self.phase == CLOSED {
             self.start != 0
@@ -622,46 +626,31 @@ impl Section {
         Ok(0)
     }
 
-    /// The step async, given a: once, before params.
-    pub fn make_async(&mut self, a: u32, body: &mut [u8]) -> Result<usize, Refused> {
-        self.judge_state(body.len())?;
-        if self.phase != OPENED {
-            return refused(Refusal::Order, 0);
-        }
-        let mut fields = Fields { words: &[a], place: 0, pool: &[], bytes: Vec::new() };
-        fields.function_lead()?;
-        let size = self.add(&fields.bytes, body)?;
-        self.phase = ASYNC_GIVEN;
-        Ok(size)
-    }
-
-    /// The step params, given n, n of (N,V) and the pool: once; without async before it, 40 is written first.
-    pub fn params(&mut self, words: &[u32], pool: &[u8], body: &mut [u8]) -> Result<usize, Refused> {
+    /// The step head (wish 5), given a, n, n of (N,V) and the pool: once. Its words are a function's row without kind and
+    /// result, and are judged as such a row is.
+    pub fn head(&mut self, words: &[u32], pool: &[u8], body: &mut [u8]) -> Result<usize, Refused> {
         self.judge_state(body.len())?;
         if words.len() > ROW_WORDS || pool.len() > POOL_BYTES {
             return refused(Refusal::Limit, 0);
         }
-        if self.phase != OPENED && self.phase != ASYNC_GIVEN {
+        if self.phase != OPENED {
             return refused(Refusal::Order, 0);
         }
-        let words_needed = words.first().map(|count| 1 + 4 * u64::from(*count));
+        let words_needed = words.get(1).map(|count| 2 + 4 * u64::from(*count));
         if words_needed != Some(words.len() as u64) {
             return refused(Refusal::Row, 0);
         }
         let mut fields = Fields { words, place: 0, pool, bytes: Vec::new() };
-        if self.phase == OPENED {
-            fields.byte(0x40);
-        }
-        fields.list(Fields::named_value)?;
+        fields.function_head()?;
         let size = self.add(&fields.bytes, body)?;
-        self.phase = PARAMS_GIVEN;
+        self.phase = HEADED;
         Ok(size)
     }
 
-    /// The step result, given O: after params; it closes the entry.
+    /// The step result, given O: after head; it closes the entry.
     pub fn result(&mut self, tag: u32, x: u32, body: &mut [u8]) -> Result<usize, Refused> {
         self.judge_state(body.len())?;
-        if self.phase != PARAMS_GIVEN {
+        if self.phase != HEADED {
             return refused(Refusal::Order, 0);
         }
         let mut fields = Fields { words: &[tag, x], place: 0, pool: &[], bytes: Vec::new() };
@@ -1316,8 +1305,7 @@ mod tests {
             let mut section = Section::new(family);
             let refused = |why: Refusal| refused(why, 0);
             assert_eq!(section.open(&mut body), refused(Refusal::Kind));
-            assert_eq!(section.make_async(1, &mut body), refused(Refusal::Order));
-            assert_eq!(section.params(&[0], &[], &mut body), refused(Refusal::Order));
+            assert_eq!(section.head(&[1, 0], &[], &mut body), refused(Refusal::Order));
             assert_eq!(section.result(2, 0, &mut body), refused(Refusal::Order));
             assert_eq!(section.abandon(&mut body), refused(Refusal::Order));
             assert_eq!(section.state(), [family, 0, 0, 0, 0]);
@@ -1426,7 +1414,7 @@ mod tests {
             let length = name.len() as u32;
             assert_eq!(write_row(7, &[7, 2, 0, 0, 0, length], name), Err(text(4)));
             let mut section = Section::from_state([7, 0, 1, OPENED, 0]);
-            assert_eq!(section.params(&[1, 0, length, 0, 12], name, &mut []), Err(text(1)));
+            assert_eq!(section.head(&[1, 1, 0, length, 0, 12], name, &mut []), Err(text(2)));
             let rows = [0u32, 2, 0, 12, 4, 7, 1, 0, length].map(u32::to_be_bytes).concat();
             let in_sheet = [&[1, 0, 0, 0, length as u8], *name, &rows[4..]].concat();
             assert_eq!(sheet(&in_sheet, &mut [0; 1], &mut []), Err(text(1)));
@@ -1452,13 +1440,20 @@ mod tests {
         let mut body = [0; 16];
         let mut section = Section::new(7);
         assert_eq!(section.open(&mut body), Ok(0));
-        assert_eq!(section.params(&[1, 0, 1, 0, 12], b"a", &mut body), Ok(5));
-        assert_eq!(section.state(), [7, 5, 1, 3, 0]);
+        assert_eq!(section.result(2, 0, &mut body), refused(Refusal::Order, 0));
+        assert_eq!(section.head(&[2, 1, 0, 1, 0, 12], b"a", &mut body), refused(Refusal::Tag, 0));
+        assert_eq!(section.head(&[0, 1, 0, 1, 2, 12], b"a", &mut body), refused(Refusal::Tag, 4));
+        for words in [&[][..], &[0], &[2], &[0, 0, 0], &[2, 1, 0, 1, 0], &[0, 0, 0, 1, 0, 12], &[0, 1 << 30]] {
+            assert_eq!(section.head(words, b"a", &mut body), refused(Refusal::Row, 0));
+        }
+        assert_eq!(section.head(&[0, 1, 0, 1, 0, 12], b"a", &mut body), Ok(5));
+        assert_eq!(section.state(), [7, 5, 1, 2, 0]);
+        assert_eq!(section.head(&[0, 0], b"a", &mut body), refused(Refusal::Order, 0));
         assert_eq!(section.result(2, 1, &mut body), refused(Refusal::Tag, 1));
         assert_eq!(section.result(2, 0, &mut body), Ok(2));
         assert_eq!(section.open(&mut body), Ok(0));
         assert_eq!(section.state(), [7, 7, 2, 1, 7]);
-        assert_eq!(section.make_async(1, &mut body), Ok(1));
+        assert_eq!(section.head(&[1, 0], &[], &mut body), Ok(2));
         assert_eq!(section.abandon(&mut body), Ok(0));
         let mut out = [0; 10];
         assert_eq!(section.finish(&body, &mut out), Ok(10));

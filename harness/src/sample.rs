@@ -32,8 +32,7 @@ pub struct Section {
 pub enum Entry {
     Row(Vec<u32>),
     Open,
-    Async(u32),
-    Params(Vec<u32>),
+    Head(Vec<u32>),
     Result(u32, u32),
     Abandon,
 }
@@ -78,8 +77,7 @@ impl Sample {
         let words = self.words(rest)?;
         match (step, words.as_slice()) {
             ("open", []) => Some(Entry::Open),
-            ("async", [a]) => Some(Entry::Async(*a)),
-            ("params", _) => Some(Entry::Params(words)),
+            ("head", _) => Some(Entry::Head(words)),
             ("result", [tag, x]) => Some(Entry::Result(*tag, *x)),
             ("abandon", []) => Some(Entry::Abandon),
             _ => None,
@@ -124,8 +122,7 @@ impl Section {
             let step = growing.step(|section, body| match entry {
                 Entry::Row(row) => section.row(row, pool, body),
                 Entry::Open => section.open(body),
-                Entry::Async(a) => section.make_async(*a, body),
-                Entry::Params(words) => section.params(words, pool, body),
+                Entry::Head(words) => section.head(words, pool, body),
                 Entry::Result(tag, x) => section.result(*tag, *x, body),
                 Entry::Abandon => section.abandon(body),
             });

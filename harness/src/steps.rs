@@ -1,4 +1,4 @@
-//! Every order of up to six steps: the library against the crate's encoders, and against the model of document 01.
+//! Every order of up to seven steps: the library against the crate's encoders, and against the model of document 01.
 
 use crate::encode::{add_type, framed, Fields};
 use crate::model;
@@ -8,13 +8,12 @@ use std::panic::{catch_unwind, set_hook, take_hook, AssertUnwindSafe};
 use wasm_encoder::{ComponentFuncTypeEncoder, ComponentTypeSection};
 
 /// The most steps of a sequence.
-const MOST: u32 = 6;
+const MOST: u32 = 7;
 
 #[derive(Clone, Copy, Debug, PartialEq, Eq)]
 enum Step {
     Open,
-    Async(u32),
-    Params,
+    Head(u32),
     ResultAbsent,
     ResultPresent,
     Abandon,
@@ -22,11 +21,10 @@ enum Step {
     Finish,
 }
 
-const STEPS: [Step; 9] = [
+const STEPS: [Step; 8] = [
     Step::Open,
-    Step::Async(0),
-    Step::Async(1),
-    Step::Params,
+    Step::Head(0),
+    Step::Head(1),
     Step::ResultAbsent,
     Step::ResultPresent,
     Step::Abandon,
@@ -34,20 +32,24 @@ const STEPS: [Step; 9] = [
     Step::Finish,
 ];
 
-/// What the steps are given.
+/// What the steps are given; heads by their a, the first word.
 #[derive(Debug)]
 struct Given {
-    params: &'static [u32],
+    heads: [&'static [u32]; 2],
     result: [u32; 2],
     row: &'static [u32],
 }
 
 const POOL: &[u8] = b"ab";
 
-/// Params of two names, a result and a row that name a type; then no params, a string, and a function's row.
+/// Heads of two parameters, a result and a row that name a type; then no parameters, a string, and a function's row.
 const GIVEN: [Given; 2] = [
-    Given { params: &[2, 0, 1, 0, 12, 1, 1, 1, 115], result: [1, 115], row: &[3, 1, 115] },
-    Given { params: &[0], result: [0, 12], row: &[15, 1, 1, 0, 2, 0, 12, 2, 0] },
+    Given {
+        heads: [&[0, 2, 0, 1, 0, 12, 1, 1, 1, 115], &[1, 2, 0, 1, 0, 12, 1, 1, 1, 115]],
+        result: [1, 115],
+        row: &[3, 1, 115],
+    },
+    Given { heads: [&[0, 0], &[1, 0]], result: [0, 12], row: &[15, 1, 1, 0, 2, 0, 12, 2, 0] },
 ];
 
 /// How the last steps of the sequences were judged.
@@ -67,7 +69,7 @@ pub fn compare(table: &mut Table) -> Result<(), Difference> {
     set_hook(hook);
     compared?;
     let all = tally.crate_panics + tally.both_go_on + tally.model_alone;
-    table.add("sequences of 1 to 6 steps: replies, states, every lent byte", "model", all);
+    table.add("sequences of 1 to 7 steps: replies, states, every lent byte", "model", all);
     table.add("  whose last step makes the crate panic: ORDER", "crate", tally.crate_panics);
     table.add("  whose last step both take: body and finished section", "crate", tally.both_go_on);
     table.add("  whose last step the crate lets by or does not have", "model", tally.model_alone);
@@ -108,9 +110,9 @@ fn judge(given: &Given, sequence: &[Step], tally: &mut Tally) -> Result<(), Diff
 }
 
 impl Step {
-    /// Whether the step is a call of the crate's function encoder.
+    /// Whether the step is one or two calls of the crate's function encoder.
     fn is_for_encoder(self) -> bool {
-        matches!(self, Step::Async(_) | Step::Params | Step::ResultAbsent | Step::ResultPresent)
+        matches!(self, Step::Head(_) | Step::ResultAbsent | Step::ResultPresent)
     }
 }
 
@@ -132,8 +134,7 @@ macro_rules! take_step {
     ($lent:expr, $step:expr, $given:expr) => {
         match $step {
             Step::Open => $lent.section.open(&mut $lent.body),
-            Step::Async(a) => $lent.section.make_async(a, &mut $lent.body),
-            Step::Params => $lent.section.params($given.params, POOL, &mut $lent.body),
+            Step::Head(a) => $lent.section.head($given.heads[a as usize], POOL, &mut $lent.body),
             Step::ResultAbsent => $lent.section.result(2, 0, &mut $lent.body),
             Step::ResultPresent => $lent.section.result($given.result[0], $given.result[1], &mut $lent.body),
             Step::Abandon => $lent.section.abandon(&mut $lent.body),
@@ -245,12 +246,14 @@ fn crate_function<'a>(given: &Given, section: &'a mut ComponentTypeSection, step
     function
 }
 
-/// A step as a call of the crate's encoder.
+/// A step as a call of the crate's encoder; a head is two.
 fn call(given: &Given, function: &mut ComponentFuncTypeEncoder, step: Step) {
     let result = |words: &[u32]| Fields { words, pool: POOL }.optional().expect("a valid result");
     match step {
-        Step::Async(a) => function.async_(a == 1),
-        Step::Params => function.params(Fields { words: given.params, pool: POOL }.many(Fields::member).expect("valid params")),
+        Step::Head(a) => {
+            let mut params = Fields { words: &given.heads[a as usize][1..], pool: POOL };
+            function.async_(a == 1).params(params.many(Fields::member).expect("valid parameters"))
+        }
         Step::ResultAbsent => function.result(result(&[2, 0])),
         Step::ResultPresent => function.result(result(&given.result)),
         _ => unreachable!("{step:?} is no call of the encoder"),

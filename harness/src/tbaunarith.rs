@@ -54,8 +54,7 @@ mod c {
         pub fn tb_read_import(input: *const u8, size: usize, grade: u32, row: *mut u32, words: usize) -> Reply;
         pub fn tb_row(state: *mut [u64; 5], row: *const u32, words: usize, pool: *const u8, pool_size: usize, body: *mut u8, body_size: usize) -> Reply;
         pub fn tb_open(state: *mut [u64; 5], body: *mut u8, body_size: usize) -> Reply;
-        pub fn tb_async(state: *mut [u64; 5], a: u32, body: *mut u8, body_size: usize) -> Reply;
-        pub fn tb_params(state: *mut [u64; 5], words: *const u32, count: usize, pool: *const u8, pool_size: usize, body: *mut u8, body_size: usize) -> Reply;
+        pub fn tb_head(state: *mut [u64; 5], words: *const u32, count: usize, pool: *const u8, pool_size: usize, body: *mut u8, body_size: usize) -> Reply;
         pub fn tb_result(state: *mut [u64; 5], tag: u32, x: u32, body: *mut u8, body_size: usize) -> Reply;
         pub fn tb_abandon(state: *mut [u64; 5], body: *mut u8, body_size: usize) -> Reply;
         pub fn tb_finish(state: *const [u64; 5], body: *const u8, body_size: usize, out: *mut u8, out_size: usize) -> Reply;
@@ -130,12 +129,9 @@ impl Section {
         unsafe { c::tb_open(&mut self.state, body.as_mut_ptr(), body.len()) }.size()
     }
 
-    pub fn make_async(&mut self, a: u32, body: &mut [u8]) -> Result<usize, Refused> {
-        unsafe { c::tb_async(&mut self.state, a, body.as_mut_ptr(), body.len()) }.size()
-    }
-
-    pub fn params(&mut self, words: &[u32], pool: &[u8], body: &mut [u8]) -> Result<usize, Refused> {
-        unsafe { c::tb_params(&mut self.state, words.as_ptr(), words.len(), pool.as_ptr(), pool.len(), body.as_mut_ptr(), body.len()) }.size()
+    /// Whether the open function is async, and its parameters: a, n, n of (name, value type), as in a function's row.
+    pub fn head(&mut self, words: &[u32], pool: &[u8], body: &mut [u8]) -> Result<usize, Refused> {
+        unsafe { c::tb_head(&mut self.state, words.as_ptr(), words.len(), pool.as_ptr(), pool.len(), body.as_mut_ptr(), body.len()) }.size()
     }
 
     pub fn result(&mut self, tag: u32, x: u32, body: &mut [u8]) -> Result<usize, Refused> {

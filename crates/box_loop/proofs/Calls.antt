@@ -41,15 +41,14 @@ use Rattle.fields.proofs.Answer as N
 use Rattle.fields.proofs.Answer.Laws as N′
 use Rattle.sections.specs.declared.Section.{Section}
 use Rattle.sections.specs.Section.{fresh}
-use Rattle.sections.specs.Steps.{turned, gives, rowing, opening, asyncing, paraming, resulting, abandoning}
+use Rattle.sections.specs.Steps.{turned, gives, rowing, opening, heading, resulting, abandoning}
 use Rattle.sections.specs.Finish.{finishing}
 use Rattle.sections.proofs.Section as S
 use Rattle.sections.proofs.Section.Laws as S′
 use Rattle.box_loop.proofs.Lending.{svals, mach, state-in, state-out, Again, Seen, lends, back, shows as sees, unseen}
 use Rattle.lent.proofs.row as of-row
 use Rattle.lent.proofs.open as of-open
-use Rattle.lent.proofs.make_async as of-make-async
-use Rattle.lent.proofs.params as of-params
+use Rattle.lent.proofs.head as of-head
 use Rattle.lent.proofs.result as of-result
 use Rattle.lent.proofs.abandon as of-abandon
 use Rattle.lent.proofs.finish as of-finish
@@ -64,11 +63,8 @@ module _ {M : Type 1} (𝓤 : URA M) (H : Heap 𝓤) (A : Atoms 𝓤) (mem : Mem
   abbrev pub OpenC : Contract 𝓤
   OpenC = tripleOf 𝓤 H A of-open.signature (of-open.spec 𝓤 H A mem run)
 
-  abbrev pub MakeAsyncC : Contract 𝓤
-  MakeAsyncC = tripleOf 𝓤 H A of-make-async.signature (of-make-async.spec 𝓤 H A mem run)
-
-  abbrev pub ParamsC : Contract 𝓤
-  ParamsC = tripleOf 𝓤 H A of-params.signature (of-params.spec 𝓤 H A mem run)
+  abbrev pub HeadC : Contract 𝓤
+  HeadC = tripleOf 𝓤 H A of-head.signature (of-head.spec 𝓤 H A mem run)
 
   abbrev pub ResultC : Contract 𝓤
   ResultC = tripleOf 𝓤 H A of-result.signature (of-result.spec 𝓤 H A mem run)
@@ -191,70 +187,24 @@ module _ {M : Type 1} (𝓤 : URA M) (H : Heap 𝓤) (A : Atoms 𝓤) (W : Given
         split ! $ move ! (2 ∷ 0 ∷ 1 ∷ []) $ join ! $ join ! $
         at-once ! $ show ! (λ (x : Out). guard 𝓤 (open-says v x) (mean 𝓤 H A (open-pieces (x .1) (x .2)))) (r, zs .0, (zs .1 .0)) $ check ! (is, was, e′ ∙ e, p) $ done !))))))
 
--- `lent::make_async`
-module _ {M : Type 1} (𝓤 : URA M) (H : Heap 𝓤) (A : Atoms 𝓤) (W : Given 𝓤 H A) (at-mem : Memory → SProp 𝓤) (run : Routine → Fun 𝓤) (l : ℕ) (ℓ : Lifetime) (κ : Lft) (q : Share) (γ : GName) (b o n : ℕ) (room : Room u8 n) (n₀ : ℕ) (n₀-fits : n₀ < 2 ^ 32) where
-  abbrev pub make-async-pieces : Section → List ℕ → Item 𝓤
-  make-async-pieces s zs = ((‵ (fat fullShare S′.mir l 0 (mach s)) ⊛ ‵ (MutSlice ℓ κ u8 .own (at-list b o γ zs) (sliceVal (b, o) n ∷ []))) ⊛ ‵ (flft κ q))
-
-  module _ (h : Section) (ys : List ℕ) where
-    abbrev pub make-async-to : ℕ × GName × ℕ × GName → MakeAsyncC 𝓤 H A at-mem run .Ghost
-    make-async-to (α, δ, β, ε) = (((α ∷ [], (β ∷ [], tt)), (fullShare, (fullShare, tt)), tt, (at-state l δ h, (n₀, (at-list b o ε ys, tt))), (vptr l 0 ∷ [], (vint w32 n₀ ∷ [], (sliceVal (b, o) n ∷ [], tt)))), tt)
-
-    abbrev pub make-async-asks : ℕ × GName × ℕ × GName → Item 𝓤
-    make-async-asks g = raw (MakeAsyncC 𝓤 H A at-mem run .pre (make-async-to g)) ⊛ (‵ (flent (g .0 ∷ []) (Body (mem S.the-row) l 0 (g .1))) ⊛ ‵ (Again κ (g .2 ∷ []) q γ b o (g .3) ys))
-
-    abbrev pub make-async-says : Val → Out → Type 0
-    make-async-says v x = Is N.the-row (x .0) (v ∷ []) × Is S.the-row (x .1) (svals (x .1)) × (length (x .2) ≡ n) × (turned (gives (x .1) (x .0)) (x .2) ≡ asyncing h n₀ ys)
-
-    pub make-async-lend : Is S.the-row h (svals h) → length ys ≡ n → ent 𝓤 (mean 𝓤 H A (make-async-pieces h ys)) (H .⇛ (ex 𝓤 (λ (g : ℕ × GName × ℕ × GName). mean 𝓤 H A (make-async-asks g))))
-    make-async-lend was e =
-        qed W (make-async-pieces h ys ∷ []) ∵ updating ! $ split ! $ split ! $ use1 W (‵ (partAt S.the-row fullShare h l 0)) (state-in 𝓤 H A W h l was) $
-        lft-new ! tt (λ α. move ! (1 ∷ []) $
-        use1 W (later (some (λ (δ : GName). ‵ (MutRef (named 0) (α ∷ []) S.the-row .own (at-state l δ h) (vptr l 0 ∷ [])) ⊛ ‵ (flent (α ∷ []) (Body (mem S.the-row) l 0 δ))))) (lends-ref 𝓤 H A W S.the-row (named 0) (α ∷ []) h l 0) $ await ! tt $
-        pick ! (λ δ. split ! $ lft-new ! tt (λ β. move ! (4 ∷ 5 ∷ []) $
-        use2 W (later (some (λ (ε : GName). ‵ (MutSlice (named 1) (β ∷ []) u8 .own (at-list b o ε ys) (sliceVal (b, o) n ∷ [])) ⊛ ‵ (Again κ (β ∷ []) q γ b o ε ys)))) (lends κ (β ∷ []) q γ b o 𝓤 H A W ℓ (named 1) ys n e) $ await ! tt $
-        pick ! (λ ε. split ! $ nothing ! $ move ! (1 ∷ 0 ∷ []) $ fjoin ! $
-        owned ! u32 (Is u32) (uint-makes 𝓤 H A W w32) n₀ (vint w32 n₀ ∷ []) (refl, n₀-fits) $ fjoin ! $ move ! (3 ∷ 0 ∷ []) $ fjoin ! $ nothing ! $
-        move ! (3 ∷ 0 ∷ []) $ join ! $ move ! (4 ∷ 0 ∷ []) $ join ! $ join ! $ nothing ! $ move ! (1 ∷ 0 ∷ []) $ join ! $
-        use1 W (raw (MakeAsyncC 𝓤 H A at-mem run .pre (make-async-to (α, δ, β, ε)))) (id⊢ 𝓤 _) $ move ! (2 ∷ 1 ∷ []) $ join ! $ move ! (1 ∷ 0 ∷ []) $
-        at-once ! $ show ! (λ (g : ℕ × GName × ℕ × GName). mean 𝓤 H A (make-async-asks g)) (α, δ, β, ε) $ done !))))
-
-    pub make-async-give : length ys ≡ n → (g : ℕ × GName × ℕ × GName) (v : Val)
-        → ent 𝓤 (sep 𝓤 (MakeAsyncC 𝓤 H A at-mem run .post (make-async-to g) v) (mean 𝓤 H A (‵ (flent (g .0 ∷ []) (Body (mem S.the-row) l 0 (g .1))) ⊛ ‵ (Again κ (g .2 ∷ []) q γ b o (g .3) ys)))) (H .⇛ (ex 𝓤 (λ (x : Out). guard 𝓤 (make-async-says v x) (mean 𝓤 H A (make-async-pieces (x .1) (x .2))))))
-    make-async-give e (α, δ, β, ε) v =
-        qed W (raw (MakeAsyncC 𝓤 H A at-mem run .post (make-async-to (α, δ, β, ε)) v) ∷ (‵ (flent (α ∷ []) (Body (mem S.the-row) l 0 δ)) ⊛ ‵ (Again κ (β ∷ []) q γ b o ε ys)) ∷ []) ∵ updating ! $
-        use1 W (later (some (λ (r : Answer). ((‵ (flft (α ∷ []) fullShare) ⊛ ‵ (flft (β ∷ []) fullShare) ⊛ ‵ ftrue) ⊛ ‵ (N.the-row .own r (v ∷ []))) ⊛ raw (ensured 𝓤 H A of-make-async.ended (of-make-async.clauses 𝓤 H A at-mem run) (α ∷ [], (β ∷ [], tt)) (at-state l δ h, (n₀, (at-list b o ε ys, tt))) tt r)))) (id⊢ 𝓤 _) $ await ! tt $
-        pick ! (λ r. split ! $ move ! (1 ∷ []) $
-        use1 W (some (λ (zs : Section × (Unit {0} × (List ℕ × Unit {0}))). ‵ (lasts of-make-async.ended (α ∷ [], (β ∷ [], tt)) (at-state l δ h, (n₀, (at-list b o ε ys, tt))) zs) ⊛ raw (fact 𝓤 (turned (gives (zs .0) r) (zs .1 .1 .0) ≡ asyncing h n₀ ys)))) (id⊢ 𝓤 _) $
-        pick ! (λ zs. split ! $ move ! (1 ∷ []) $ heard ! (turned (gives (zs .0) r) (zs .1 .1 .0) ≡ asyncing h n₀ ys) (λ p. fsplit ! $ move ! (1 ∷ []) $
-        fsplit ! $ drop ! $ fsplit ! $ move ! (1 ∷ []) $ drop ! $ fsplit ! $ move ! (1 ∷ []) $ feqL ! (λ e′. move ! (2 ∷ []) $ split ! $ move ! (1 ∷ []) $
-        peeks ! N.the-row (Is N.the-row) (shows 𝓤 H A N.the-row) r (v ∷ []) (λ is. drop ! $ split ! $ move ! (1 ∷ []) $ split ! $ move ! (1 ∷ []) $ drop ! $
-        move ! (4 ∷ []) $ split ! $ move ! (3 ∷ []) $ lft-end ! tt $ move ! (0 ∷ 1 ∷ 5 ∷ []) $
-        use3 W (later (‵ (partAt S.the-row fullShare (zs .0) l 0))) (ref-back 𝓤 H A W S.the-row (α ∷ []) δ (zs .0) l 0) $ await ! tt $
-        use1 W (given (Is S.the-row (zs .0) (svals (zs .0))) (‵ (fat fullShare S′.mir l 0 (mach (zs .0))))) (state-out 𝓤 H A W (zs .0) l) $ learn ! (λ was.
-        move ! (2 ∷ []) $ lft-end ! tt $ move ! (0 ∷ 2 ∷ 3 ∷ []) $
-        use3 W (later (‵ (MutSlice ℓ κ u8 .own (at-list b o γ (zs .1 .1 .0)) (sliceVal (b, o) n ∷ [])) ⊛ ‵ (flft κ q))) (back κ (β ∷ []) q γ b o 𝓤 H A W ℓ (named 1) ys n e ε (zs .1 .1 .0) room e′) $ await ! tt $
-        split ! $ move ! (2 ∷ 0 ∷ 1 ∷ []) $ join ! $ join ! $
-        at-once ! $ show ! (λ (x : Out). guard 𝓤 (make-async-says v x) (mean 𝓤 H A (make-async-pieces (x .1) (x .2)))) (r, zs .0, (zs .1 .1 .0)) $ check ! (is, was, e′ ∙ e, p) $ done !))))))
-
--- `lent::params`
+-- `lent::head`
 module _ {M : Type 1} (𝓤 : URA M) (H : Heap 𝓤) (A : Atoms 𝓤) (W : Given 𝓤 H A) (at-mem : Memory → SProp 𝓤) (run : Routine → Fun 𝓤) (l : ℕ) (ℓ : Lifetime) (κ : Lft) (q : Share) (γ : GName) (b o n : ℕ) (room : Room u8 n) (ℓ₀ : Lifetime) (κ₀ : Lft) (q₀ : Share) (γ₀ : GName) (b₀ o₀ : ℕ) (ts₀ : List ℕ) (ℓ₁ : Lifetime) (κ₁ : Lft) (q₁ : Share) (γ₁ : GName) (b₁ o₁ : ℕ) (ts₁ : List ℕ) where
-  abbrev pub params-pieces : Section → List ℕ → Item 𝓤
-  params-pieces s zs = ((((((‵ (fat fullShare S′.mir l 0 (mach s)) ⊛ ‵ (MutSlice ℓ κ u8 .own (at-list b o γ zs) (sliceVal (b, o) n ∷ []))) ⊛ ‵ (flft κ q)) ⊛ ‵ (ShrSlice ℓ₀ κ₀ u32 .own (at-list b₀ o₀ γ₀ ts₀) (sliceVal (b₀, o₀) (length ts₀) ∷ []))) ⊛ ‵ (flft κ₀ q₀)) ⊛ ‵ (ShrSlice ℓ₁ κ₁ u8 .own (at-list b₁ o₁ γ₁ ts₁) (sliceVal (b₁, o₁) (length ts₁) ∷ []))) ⊛ ‵ (flft κ₁ q₁))
+  abbrev pub head-pieces : Section → List ℕ → Item 𝓤
+  head-pieces s zs = ((((((‵ (fat fullShare S′.mir l 0 (mach s)) ⊛ ‵ (MutSlice ℓ κ u8 .own (at-list b o γ zs) (sliceVal (b, o) n ∷ []))) ⊛ ‵ (flft κ q)) ⊛ ‵ (ShrSlice ℓ₀ κ₀ u32 .own (at-list b₀ o₀ γ₀ ts₀) (sliceVal (b₀, o₀) (length ts₀) ∷ []))) ⊛ ‵ (flft κ₀ q₀)) ⊛ ‵ (ShrSlice ℓ₁ κ₁ u8 .own (at-list b₁ o₁ γ₁ ts₁) (sliceVal (b₁, o₁) (length ts₁) ∷ []))) ⊛ ‵ (flft κ₁ q₁))
 
   module _ (h : Section) (ys : List ℕ) where
-    abbrev pub params-to : ℕ × GName × ℕ × GName → ParamsC 𝓤 H A at-mem run .Ghost
-    params-to (α, δ, β, ε) = (((α ∷ [], (κ₀, (κ₁, (β ∷ [], tt)))), (fullShare, (q₀, (q₁, (fullShare, tt)))), tt, (at-state l δ h, (at-list b₀ o₀ γ₀ ts₀, (at-list b₁ o₁ γ₁ ts₁, (at-list b o ε ys, tt)))), (vptr l 0 ∷ [], (sliceVal (b₀, o₀) (length ts₀) ∷ [], (sliceVal (b₁, o₁) (length ts₁) ∷ [], (sliceVal (b, o) n ∷ [], tt))))), tt)
+    abbrev pub head-to : ℕ × GName × ℕ × GName → HeadC 𝓤 H A at-mem run .Ghost
+    head-to (α, δ, β, ε) = (((α ∷ [], (κ₀, (κ₁, (β ∷ [], tt)))), (fullShare, (q₀, (q₁, (fullShare, tt)))), tt, (at-state l δ h, (at-list b₀ o₀ γ₀ ts₀, (at-list b₁ o₁ γ₁ ts₁, (at-list b o ε ys, tt)))), (vptr l 0 ∷ [], (sliceVal (b₀, o₀) (length ts₀) ∷ [], (sliceVal (b₁, o₁) (length ts₁) ∷ [], (sliceVal (b, o) n ∷ [], tt))))), tt)
 
-    abbrev pub params-asks : ℕ × GName × ℕ × GName → Item 𝓤
-    params-asks g = raw (ParamsC 𝓤 H A at-mem run .pre (params-to g)) ⊛ (((‵ (flent (g .0 ∷ []) (Body (mem S.the-row) l 0 (g .1))) ⊛ ‵ (Again κ (g .2 ∷ []) q γ b o (g .3) ys)) ⊛ ‵ (ShrSlice ℓ₀ κ₀ u32 .own (at-list b₀ o₀ γ₀ ts₀) (sliceVal (b₀, o₀) (length ts₀) ∷ []))) ⊛ ‵ (ShrSlice ℓ₁ κ₁ u8 .own (at-list b₁ o₁ γ₁ ts₁) (sliceVal (b₁, o₁) (length ts₁) ∷ [])))
+    abbrev pub head-asks : ℕ × GName × ℕ × GName → Item 𝓤
+    head-asks g = raw (HeadC 𝓤 H A at-mem run .pre (head-to g)) ⊛ (((‵ (flent (g .0 ∷ []) (Body (mem S.the-row) l 0 (g .1))) ⊛ ‵ (Again κ (g .2 ∷ []) q γ b o (g .3) ys)) ⊛ ‵ (ShrSlice ℓ₀ κ₀ u32 .own (at-list b₀ o₀ γ₀ ts₀) (sliceVal (b₀, o₀) (length ts₀) ∷ []))) ⊛ ‵ (ShrSlice ℓ₁ κ₁ u8 .own (at-list b₁ o₁ γ₁ ts₁) (sliceVal (b₁, o₁) (length ts₁) ∷ [])))
 
-    abbrev pub params-says : Val → Out → Type 0
-    params-says v x = Is N.the-row (x .0) (v ∷ []) × Is S.the-row (x .1) (svals (x .1)) × (length (x .2) ≡ n) × (turned (gives (x .1) (x .0)) (x .2) ≡ paraming h ts₀ ts₁ ys)
+    abbrev pub head-says : Val → Out → Type 0
+    head-says v x = Is N.the-row (x .0) (v ∷ []) × Is S.the-row (x .1) (svals (x .1)) × (length (x .2) ≡ n) × (turned (gives (x .1) (x .0)) (x .2) ≡ heading h ts₀ ts₁ ys)
 
-    pub params-lend : Is S.the-row h (svals h) → length ys ≡ n → ent 𝓤 (mean 𝓤 H A (params-pieces h ys)) (H .⇛ (ex 𝓤 (λ (g : ℕ × GName × ℕ × GName). mean 𝓤 H A (params-asks g))))
-    params-lend was e =
-        qed W (params-pieces h ys ∷ []) ∵ updating ! $ split ! $ split ! $ split ! $ split ! $ split ! $ split ! $
+    pub head-lend : Is S.the-row h (svals h) → length ys ≡ n → ent 𝓤 (mean 𝓤 H A (head-pieces h ys)) (H .⇛ (ex 𝓤 (λ (g : ℕ × GName × ℕ × GName). mean 𝓤 H A (head-asks g))))
+    head-lend was e =
+        qed W (head-pieces h ys ∷ []) ∵ updating ! $ split ! $ split ! $ split ! $ split ! $ split ! $ split ! $
         use1 W (‵ (partAt S.the-row fullShare h l 0)) (state-in 𝓤 H A W h l was) $ lft-new ! tt (λ α. move ! (1 ∷ []) $
         use1 W (later (some (λ (δ : GName). ‵ (MutRef (named 0) (α ∷ []) S.the-row .own (at-state l δ h) (vptr l 0 ∷ [])) ⊛ ‵ (flent (α ∷ []) (Body (mem S.the-row) l 0 δ))))) (lends-ref 𝓤 H A W S.the-row (named 0) (α ∷ []) h l 0) $ await ! tt $
         pick ! (λ δ. split ! $ lft-new ! tt (λ β. move ! (4 ∷ 5 ∷ []) $
@@ -265,17 +215,17 @@ module _ {M : Type 1} (𝓤 : URA M) (H : Heap 𝓤) (A : Atoms 𝓤) (W : Given
         use1 W (‵ (ShrSlice ℓ₀ κ₀ u32 .own (at-list b₀ o₀ γ₀ ts₀) (sliceVal (b₀, o₀) (length ts₀) ∷ [])) ⊛ ‵ (ShrSlice ℓ₀ κ₀ u32 .own (at-list b₀ o₀ γ₀ ts₀) (sliceVal (b₀, o₀) (length ts₀) ∷ []))) (shr-slice-copy 𝓤 H A W ℓ₀ κ₀ u32 .twice (at-list b₀ o₀ γ₀ ts₀) (sliceVal (b₀, o₀) (length ts₀) ∷ [])) $
         split ! $ move ! (1 ∷ 2 ∷ []) $ fjoin ! $ move ! (5 ∷ 0 ∷ []) $ fjoin ! $ nothing ! $ move ! (5 ∷ 0 ∷ []) $ join ! $ move ! (8 ∷ 0 ∷ []) $ join ! $
         move ! (7 ∷ 0 ∷ []) $ join ! $ move ! (6 ∷ 0 ∷ []) $ join ! $ join ! $ nothing ! $ move ! (1 ∷ 0 ∷ []) $ join ! $
-        use1 W (raw (ParamsC 𝓤 H A at-mem run .pre (params-to (α, δ, β, ε)))) (id⊢ 𝓤 _) $ move ! (4 ∷ 3 ∷ 1 ∷ 2 ∷ []) $ join ! $ join ! $ join ! $
-        move ! (1 ∷ 0 ∷ []) $ at-once ! $ show ! (λ (g : ℕ × GName × ℕ × GName). mean 𝓤 H A (params-asks g)) (α, δ, β, ε) $ done !))))
+        use1 W (raw (HeadC 𝓤 H A at-mem run .pre (head-to (α, δ, β, ε)))) (id⊢ 𝓤 _) $ move ! (4 ∷ 3 ∷ 1 ∷ 2 ∷ []) $ join ! $ join ! $ join ! $
+        move ! (1 ∷ 0 ∷ []) $ at-once ! $ show ! (λ (g : ℕ × GName × ℕ × GName). mean 𝓤 H A (head-asks g)) (α, δ, β, ε) $ done !))))
 
-    pub params-give : length ys ≡ n → (g : ℕ × GName × ℕ × GName) (v : Val)
-        → ent 𝓤 (sep 𝓤 (ParamsC 𝓤 H A at-mem run .post (params-to g) v) (mean 𝓤 H A (((‵ (flent (g .0 ∷ []) (Body (mem S.the-row) l 0 (g .1))) ⊛ ‵ (Again κ (g .2 ∷ []) q γ b o (g .3) ys)) ⊛ ‵ (ShrSlice ℓ₀ κ₀ u32 .own (at-list b₀ o₀ γ₀ ts₀) (sliceVal (b₀, o₀) (length ts₀) ∷ []))) ⊛ ‵ (ShrSlice ℓ₁ κ₁ u8 .own (at-list b₁ o₁ γ₁ ts₁) (sliceVal (b₁, o₁) (length ts₁) ∷ []))))) (H .⇛ (ex 𝓤 (λ (x : Out). guard 𝓤 (params-says v x) (mean 𝓤 H A (params-pieces (x .1) (x .2))))))
-    params-give e (α, δ, β, ε) v =
-        qed W (raw (ParamsC 𝓤 H A at-mem run .post (params-to (α, δ, β, ε)) v) ∷ (((‵ (flent (α ∷ []) (Body (mem S.the-row) l 0 δ)) ⊛ ‵ (Again κ (β ∷ []) q γ b o ε ys)) ⊛ ‵ (ShrSlice ℓ₀ κ₀ u32 .own (at-list b₀ o₀ γ₀ ts₀) (sliceVal (b₀, o₀) (length ts₀) ∷ []))) ⊛ ‵ (ShrSlice ℓ₁ κ₁ u8 .own (at-list b₁ o₁ γ₁ ts₁) (sliceVal (b₁, o₁) (length ts₁) ∷ []))) ∷ []) ∵ updating ! $
-        use1 W (later (some (λ (r : Answer). ((‵ (flft (α ∷ []) fullShare) ⊛ ‵ (flft κ₀ q₀) ⊛ ‵ (flft κ₁ q₁) ⊛ ‵ (flft (β ∷ []) fullShare) ⊛ ‵ ftrue) ⊛ ‵ (N.the-row .own r (v ∷ []))) ⊛ raw (ensured 𝓤 H A of-params.ended (of-params.clauses 𝓤 H A at-mem run) (α ∷ [], (κ₀, (κ₁, (β ∷ [], tt)))) (at-state l δ h, (at-list b₀ o₀ γ₀ ts₀, (at-list b₁ o₁ γ₁ ts₁, (at-list b o ε ys, tt)))) tt r)))) (id⊢ 𝓤 _) $ await ! tt $
+    pub head-give : length ys ≡ n → (g : ℕ × GName × ℕ × GName) (v : Val)
+        → ent 𝓤 (sep 𝓤 (HeadC 𝓤 H A at-mem run .post (head-to g) v) (mean 𝓤 H A (((‵ (flent (g .0 ∷ []) (Body (mem S.the-row) l 0 (g .1))) ⊛ ‵ (Again κ (g .2 ∷ []) q γ b o (g .3) ys)) ⊛ ‵ (ShrSlice ℓ₀ κ₀ u32 .own (at-list b₀ o₀ γ₀ ts₀) (sliceVal (b₀, o₀) (length ts₀) ∷ []))) ⊛ ‵ (ShrSlice ℓ₁ κ₁ u8 .own (at-list b₁ o₁ γ₁ ts₁) (sliceVal (b₁, o₁) (length ts₁) ∷ []))))) (H .⇛ (ex 𝓤 (λ (x : Out). guard 𝓤 (head-says v x) (mean 𝓤 H A (head-pieces (x .1) (x .2))))))
+    head-give e (α, δ, β, ε) v =
+        qed W (raw (HeadC 𝓤 H A at-mem run .post (head-to (α, δ, β, ε)) v) ∷ (((‵ (flent (α ∷ []) (Body (mem S.the-row) l 0 δ)) ⊛ ‵ (Again κ (β ∷ []) q γ b o ε ys)) ⊛ ‵ (ShrSlice ℓ₀ κ₀ u32 .own (at-list b₀ o₀ γ₀ ts₀) (sliceVal (b₀, o₀) (length ts₀) ∷ []))) ⊛ ‵ (ShrSlice ℓ₁ κ₁ u8 .own (at-list b₁ o₁ γ₁ ts₁) (sliceVal (b₁, o₁) (length ts₁) ∷ []))) ∷ []) ∵ updating ! $
+        use1 W (later (some (λ (r : Answer). ((‵ (flft (α ∷ []) fullShare) ⊛ ‵ (flft κ₀ q₀) ⊛ ‵ (flft κ₁ q₁) ⊛ ‵ (flft (β ∷ []) fullShare) ⊛ ‵ ftrue) ⊛ ‵ (N.the-row .own r (v ∷ []))) ⊛ raw (ensured 𝓤 H A of-head.ended (of-head.clauses 𝓤 H A at-mem run) (α ∷ [], (κ₀, (κ₁, (β ∷ [], tt)))) (at-state l δ h, (at-list b₀ o₀ γ₀ ts₀, (at-list b₁ o₁ γ₁ ts₁, (at-list b o ε ys, tt)))) tt r)))) (id⊢ 𝓤 _) $ await ! tt $
         pick ! (λ r. split ! $ move ! (1 ∷ []) $
-        use1 W (some (λ (zs : Section × (Unit {0} × (Unit {0} × (List ℕ × Unit {0})))). ‵ (lasts of-params.ended (α ∷ [], (κ₀, (κ₁, (β ∷ [], tt)))) (at-state l δ h, (at-list b₀ o₀ γ₀ ts₀, (at-list b₁ o₁ γ₁ ts₁, (at-list b o ε ys, tt)))) zs) ⊛ raw (fact 𝓤 (turned (gives (zs .0) r) (zs .1 .1 .1 .0) ≡ paraming h ts₀ ts₁ ys)))) (id⊢ 𝓤 _) $
-        pick ! (λ zs. split ! $ move ! (1 ∷ []) $ heard ! (turned (gives (zs .0) r) (zs .1 .1 .1 .0) ≡ paraming h ts₀ ts₁ ys) (λ p. fsplit ! $
+        use1 W (some (λ (zs : Section × (Unit {0} × (Unit {0} × (List ℕ × Unit {0})))). ‵ (lasts of-head.ended (α ∷ [], (κ₀, (κ₁, (β ∷ [], tt)))) (at-state l δ h, (at-list b₀ o₀ γ₀ ts₀, (at-list b₁ o₁ γ₁ ts₁, (at-list b o ε ys, tt)))) zs) ⊛ raw (fact 𝓤 (turned (gives (zs .0) r) (zs .1 .1 .1 .0) ≡ heading h ts₀ ts₁ ys)))) (id⊢ 𝓤 _) $
+        pick ! (λ zs. split ! $ move ! (1 ∷ []) $ heard ! (turned (gives (zs .0) r) (zs .1 .1 .1 .0) ≡ heading h ts₀ ts₁ ys) (λ p. fsplit ! $
         move ! (1 ∷ []) $ fsplit ! $ drop ! $ fsplit ! $ drop ! $ fsplit ! $ move ! (1 ∷ []) $ drop ! $ fsplit ! $ move ! (1 ∷ []) $ feqL ! (λ e′.
         move ! (2 ∷ []) $ split ! $ move ! (1 ∷ []) $ peeks ! N.the-row (Is N.the-row) (shows 𝓤 H A N.the-row) r (v ∷ []) (λ is. drop ! $ split ! $
         move ! (1 ∷ []) $ split ! $ move ! (1 ∷ []) $ split ! $ move ! (1 ∷ []) $ split ! $ move ! (1 ∷ []) $ drop ! $ move ! (6 ∷ []) $ split ! $ split ! $
@@ -285,7 +235,7 @@ module _ {M : Type 1} (𝓤 : URA M) (H : Heap 𝓤) (A : Atoms 𝓤) (W : Given
         move ! (4 ∷ []) $ lft-end ! tt $ move ! (0 ∷ 2 ∷ 7 ∷ []) $
         use3 W (later (‵ (MutSlice ℓ κ u8 .own (at-list b o γ (zs .1 .1 .1 .0)) (sliceVal (b, o) n ∷ [])) ⊛ ‵ (flft κ q))) (back κ (β ∷ []) q γ b o 𝓤 H A W ℓ (named 3) ys n e ε (zs .1 .1 .1 .0) room e′) $ await ! tt $
         split ! $ move ! (2 ∷ 0 ∷ 1 ∷ 3 ∷ 6 ∷ 4 ∷ 5 ∷ []) $ join ! $ join ! $ join ! $ join ! $ join ! $ join ! $
-        at-once ! $ show ! (λ (x : Out). guard 𝓤 (params-says v x) (mean 𝓤 H A (params-pieces (x .1) (x .2)))) (r, zs .0, (zs .1 .1 .1 .0)) $ check ! (is, was, e′ ∙ e, p) $ done !))))))
+        at-once ! $ show ! (λ (x : Out). guard 𝓤 (head-says v x) (mean 𝓤 H A (head-pieces (x .1) (x .2)))) (r, zs .0, (zs .1 .1 .1 .0)) $ check ! (is, was, e′ ∙ e, p) $ done !))))))
 
 -- `lent::result`
 module _ {M : Type 1} (𝓤 : URA M) (H : Heap 𝓤) (A : Atoms 𝓤) (W : Given 𝓤 H A) (at-mem : Memory → SProp 𝓤) (run : Routine → Fun 𝓤) (l : ℕ) (ℓ : Lifetime) (κ : Lft) (q : Share) (γ : GName) (b o n : ℕ) (room : Room u8 n) (n₀ : ℕ) (n₀-fits : n₀ < 2 ^ 32) (n₁ : ℕ) (n₁-fits : n₁ < 2 ^ 32) where

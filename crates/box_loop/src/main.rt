@@ -13,24 +13,21 @@ const ROW: u32 = 0;
 
 const OPEN: u32 = 1;
 
-const ASYNC: u32 = 2;
+const HEAD: u32 = 2;
 
-const PARAMS: u32 = 3;
+const RESULT: u32 = 3;
 
-const RESULT: u32 = 4;
+const ABANDON: u32 = 4;
 
-const ABANDON: u32 = 5;
-
-const FINISH: u32 = 6;
+const FINISH: u32 = 5;
 
 fn say_step(step: u32) -> usize {
     match step {
         0 => say(b"row"),
         1 => say(b"open"),
-        2 => say(b"async"),
-        3 => say(b"params"),
-        4 => say(b"result"),
-        5 => say(b"abandon"),
+        2 => say(b"head"),
+        3 => say(b"result"),
+        4 => say(b"abandon"),
         _ => say(b"finish"),
     }
 }
@@ -64,20 +61,12 @@ fn by_lending(row: &[u32], words: &[u32], pool: &[u8], body: &mut [u8], out: &mu
     show(ROW, lent::row(&mut section, row, pool, body), section);
     show(ROW, lent::row(&mut section, words, pool, body), section);
     show(OPEN, lent::open(&mut section, body), section);
-    show(ASYNC, lent::make_async(&mut section, 1, body), section);
+    show(OPEN, lent::open(&mut section, body), section);
     show(RESULT, lent::result(&mut section, 0, 12, body), section);
-    show(
-        PARAMS,
-        lent::params(&mut section, words, pool, body),
-        section,
-    );
+    show(HEAD, lent::head(&mut section, words, pool, body), section);
     show(RESULT, lent::result(&mut section, 0, 12, body), section);
     show(OPEN, lent::open(&mut section, body), section);
-    show(
-        PARAMS,
-        lent::params(&mut section, words, pool, body),
-        section,
-    );
+    show(HEAD, lent::head(&mut section, words, pool, body), section);
     show(ABANDON, lent::abandon(&mut section, body), section);
     let finished = lent::finish(&section, body, out);
     show(FINISH, finished, section);
@@ -104,22 +93,22 @@ fn rows_by_value(
     shown(ROW, one.row(words, pool, body))
 }
 
-// the function, with a result out of turn,
+// the function, with an opening and a result out of turn,
 fn open_by_value(section: Section, body: &mut [u8]) -> Section {
     let one = shown(OPEN, section.open(body));
-    let two = shown(ASYNC, one.make_async(1, body));
+    let two = shown(OPEN, one.open(body));
     shown(RESULT, two.result(0, 12, body))
 }
 
 fn close_by_value(section: Section, words: &[u32], pool: &[u8], body: &mut [u8]) -> Section {
-    let one = shown(PARAMS, section.params(words, pool, body));
+    let one = shown(HEAD, section.head(words, pool, body));
     shown(RESULT, one.result(0, 12, body))
 }
 
 // the function that is abandoned,
 fn abandon_by_value(section: Section, words: &[u32], pool: &[u8], body: &mut [u8]) -> Section {
     let one = shown(OPEN, section.open(body));
-    let two = shown(PARAMS, one.params(words, pool, body));
+    let two = shown(HEAD, one.head(words, pool, body));
     shown(ABANDON, two.abandon(body))
 }
 
@@ -161,11 +150,11 @@ fn say_by_value(row: &[u32], words: &[u32], pool: &[u8]) {
     say_finished(finished, &out);
 }
 
-// Both over the same row, words and pool. The row is a record of ab, a string. The words are one parameter, x, a u32; as a row they are
-// a record of two fields that ends too early.
+// Both over the same row, words and pool. The row is a record of ab, a string. The words are the head of a function of x, a u32; as a row
+// they are a primitive with words left over.
 fn main() {
     let row = [1u32, 1, 0, 2, 0, 12];
-    let words = [1u32, 2, 1, 0, 6];
+    let words = [0u32, 1, 2, 1, 0, 6];
     say(b"lent\n");
     say_by_lending(&row, &words, b"abx");
     say(b"by value\n");

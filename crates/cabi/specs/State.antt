@@ -1,4 +1,4 @@
--- A section's state as five numbers: family, used, count, phase (0 closed, 1 opened, 2 async given, 3 params given), start.
+-- A section's state as five numbers: family, used, count, phase (0 closed, 1 opened, 2 headed), start.
 use Prim.Native.Nat.{ℕ, _^_}
 use mathlib.Core.Bool.{cond}
 use mathlib.Core.List.{List, [], _∷_}
@@ -6,7 +6,7 @@ use lib.Dec.{eqb, ltb}
 use lib.ListN.{getD}
 use Rattle.fields.specs.Answers.{Left}
 use Rattle.sections.specs.declared.Phase.{Phase}
-use Rattle.sections.specs.declared.Phase.the-variants.{Closed, Opened, Asynced, Parametered}
+use Rattle.sections.specs.declared.Phase.the-variants.{Closed, Opened, Headed}
 use Rattle.sections.specs.declared.Section.{Section}
 use Rattle.sections.specs.Steps.{Turn}
 use Rattle.sections.specs.Finish.{finishing}
@@ -15,11 +15,11 @@ use Rattle.cabi.specs.declared.Given.{Given}
 use Rattle.cabi.specs.declared.Given.the-variants.{Is, Not}
 use Rattle.cabi.specs.Reply.{replyOf, limit}
 
--- a closed state has start 0; there is no phase above 3
+-- a closed state has start 0; there is no phase above 2
 abbrev pub phaseOf : ℕ → ℕ → (Phase → Given) → Given
 phaseOf phase start k =
     cond (eqb phase 0) (cond (eqb start 0) (k Closed) Not)
-    (cond (eqb phase 1) (k (Opened start)) (cond (eqb phase 2) (k (Asynced start)) (cond (eqb phase 3) (k (Parametered start)) Not)))
+    (cond (eqb phase 1) (k (Opened start)) (cond (eqb phase 2) (k (Headed start)) Not))
 
 abbrev pub sectionOf : ℕ → ℕ → ℕ → Phase → Given
 sectionOf family used count phase = Is (record { family = family; used = used; count = count; phase = phase })
@@ -35,14 +35,12 @@ given s =
 abbrev pub phaseNumber : Phase → ℕ
 phaseNumber Closed = 0
 phaseNumber (Opened start) = 1
-phaseNumber (Asynced start) = 2
-phaseNumber (Parametered start) = 3
+phaseNumber (Headed start) = 2
 
 abbrev pub startNumber : Phase → ℕ
 startNumber Closed = 0
 startNumber (Opened start) = start
-startNumber (Asynced start) = start
-startNumber (Parametered start) = start
+startNumber (Headed start) = start
 
 abbrev pub numbersOf : Section → List ℕ
 numbersOf s = s .family ∷ s .used ∷ s .count ∷ phaseNumber (s .phase) ∷ startNumber (s .phase) ∷ []

@@ -11,7 +11,7 @@ ghost use lib.ListN.{length};
 ghost use Rattle.reading.specs.inside.Few.{Few};
 ghost use Rattle.items.specs.ReadType.{readType};
 ghost use Rattle.items.specs.ReadImport.{readImport};
-ghost use Rattle.sections.specs.Steps.{rowing, opening, asyncing, paraming, resulting, abandoning};
+ghost use Rattle.sections.specs.Steps.{rowing, opening, heading, resulting, abandoning};
 ghost use Rattle.sheets.specs.Sheet.{sheeted};
 ghost use Rattle.cabi.specs.Read.{replyOfRead, filled, ofRead};
 ghost use Rattle.cabi.specs.Reply.{replyOf, limit};
@@ -93,10 +93,7 @@ fn with_phase(family: u32, used: usize, count: u32, phase: u64, start: usize) ->
         return in_phase(family, used, count, Phase::Opened(start));
     }
     if phase == 2 {
-        return in_phase(family, used, count, Phase::Asynced(start));
-    }
-    if phase == 3 {
-        return in_phase(family, used, count, Phase::Parametered(start));
+        return in_phase(family, used, count, Phase::Headed(start));
     }
     Given::Not
 }
@@ -142,8 +139,7 @@ fn phase_number(phase: Phase) -> u64
     match phase {
         Phase::Closed => 0,
         Phase::Opened(_) => 1,
-        Phase::Asynced(_) => 2,
-        Phase::Parametered(_) => 3,
+        Phase::Headed(_) => 2,
     }
 }
 
@@ -153,8 +149,7 @@ fn start_number(phase: Phase) -> u64
     match phase {
         Phase::Closed => 0,
         Phase::Opened(start) => start as u64,
-        Phase::Asynced(start) => start as u64,
-        Phase::Parametered(start) => start as u64,
+        Phase::Headed(start) => start as u64,
     }
 }
 
@@ -291,29 +286,18 @@ pub extern "C" fn tb_open(state: &mut [u64; 5], body: &mut [u8]) -> Reply
     }
 }
 
-// The function's first byte.
+// The function's head: its first byte and its parameters.
 #[no_mangle]
-pub extern "C" fn tb_async(state: &mut [u64; 5], a: u32, body: &mut [u8]) -> Reply
-    ensures { λ r. ⌜ stepped r (now (state .exit)) (now (body .exit)) ≡ step (given (now (state .entry))) (λ s. asyncing s a (now (body .entry))) (now (state .entry)) (now (body .entry)) ⌝ }
-{
-    match take_state(state) {
-        Given::Is(s) => settle(s.make_async(a, body), state),
-        Given::Not => refuse(),
-    }
-}
-
-// The function's parameters.
-#[no_mangle]
-pub extern "C" fn tb_params(
+pub extern "C" fn tb_head(
     state: &mut [u64; 5],
     words: &[u32],
     pool: &[u8],
     body: &mut [u8],
 ) -> Reply
-    ensures { λ r. ⌜ stepped r (now (state .exit)) (now (body .exit)) ≡ step (given (now (state .entry))) (λ s. paraming s (now (words .entry)) (now (pool .entry)) (now (body .entry))) (now (state .entry)) (now (body .entry)) ⌝ }
+    ensures { λ r. ⌜ stepped r (now (state .exit)) (now (body .exit)) ≡ step (given (now (state .entry))) (λ s. heading s (now (words .entry)) (now (pool .entry)) (now (body .entry))) (now (state .entry)) (now (body .entry)) ⌝ }
 {
     match take_state(state) {
-        Given::Is(s) => settle(s.params(words, pool, body), state),
+        Given::Is(s) => settle(s.head(words, pool, body), state),
         Given::Not => refuse(),
     }
 }

@@ -15,7 +15,6 @@ use Rattle.numbers.specs.Numbers as numbers
 use Rattle.numbers.proofs.BytesLaws.{sets-outside, store-either}
 use Rattle.fields.specs.declared.Answer.{Answer}
 use Rattle.fields.specs.declared.Answer.the-variants.{Size, Refused}
-use Rattle.fields.specs.declared.Field.the-variants as field
 use Rattle.fields.specs.declared.Found.{Found}
 use Rattle.fields.specs.declared.Found.the-variants as found
 use Rattle.fields.specs.declared.Leaf.{Leaf}
@@ -47,16 +46,16 @@ use Rattle.imports.specs.Write.{writeImport}
 use Rattle.canonicals.specs.Write.{writeCanonical}
 use Rattle.instances.specs.Write.{writeCoreInstance, writeInstance}
 use Rattle.sections.specs.declared.Phase.{Phase}
-use Rattle.sections.specs.declared.Phase.the-variants.{Closed, Opened, Asynced, Parametered}
+use Rattle.sections.specs.declared.Phase.the-variants.{Closed, Opened, Headed}
 use Rattle.sections.specs.declared.Section.{Section}
 use Rattle.sections.specs.Finish as frame
 use Rattle.sections.specs.Finish.{framing, finishing}
-use Rattle.sections.specs.Runs.{Step, Row, Open, Async, Params, Result, Abandon, turn}
+use Rattle.sections.specs.Runs.{Step, Row, Open, Head, Result, Abandon, turn}
 use Rattle.sections.specs.Section.{opened, sounds, measuredFamily, familyBytes, writeFamily}
-use Rattle.sections.specs.Steps.{Turn, turned, refused, taken, withdrawn, asyncIn, paramsIn, resultIn, abandonIn, asyncing, paraming, resulting, abandoning}
+use Rattle.sections.specs.Steps.{Turn, turned, refused, taken, withdrawn, headIn, resultIn, abandonIn, heading, resulting, abandoning}
 use Rattle.sections.proofs.FamilyLaws.{family-stored, family-size}
 use Rattle.sections.proofs.TurnLaws as law
-use Rattle.sections.proofs.TurnLaws.{either, asyncShape, paramsShape, resultShape, shape-turns, row-turns, open-turns}
+use Rattle.sections.proofs.TurnLaws.{either, shape-turns, row-turns, open-turns}
 use Rattle.sheets.specs.Frame.{Rows, Are, Broken, framed, poolOf, listed}
 use Rattle.sheets.specs.Sheet as sheet
 use Rattle.sheets.specs.Sheet.{familyOf, tries, joined, finished, ofRows, sheeted}
@@ -254,28 +253,17 @@ module _ (s : Section) (body : List ℕ) where
       }
 
   -- the steps of an open entry, by the phase
-  on-async : (a : ℕ) (p : Phase) → s .phase ≡ p → Leaves (Async a) s body (asyncIn p s a body)
-  on-async a Closed e = refuses _ refusal.Order 0
-  on-async a (Opened start) e =
-      leaves (Async a) (λ n. simp e) (shape-turns s body (s .count) (Asynced start) asyncShape (a ∷ []) [])
-  on-async a (Asynced start) e = refuses _ refusal.Order 0
-  on-async a (Parametered start) e = refuses _ refusal.Order 0
-
-  on-params : (words pool : List ℕ) (p : Phase) → s .phase ≡ p → Leaves (Params words pool) s body (paramsIn p s words pool body)
-  on-params words pool Closed e = refuses _ refusal.Order 0
-  on-params words pool (Opened start) e =
-      leaves (Params words pool) (λ n. simp e)
-      (shape-turns s body (s .count) (Parametered start) (paramsShape (field.Fixed 0x40)) words pool)
-  on-params words pool (Asynced start) e =
-      leaves (Params words pool) (λ n. simp e) (shape-turns s body (s .count) (Parametered start) (paramsShape field.Nothing) words pool)
-  on-params words pool (Parametered start) e = refuses _ refusal.Order 0
+  on-head : (words pool : List ℕ) (p : Phase) → s .phase ≡ p → Leaves (Head words pool) s body (headIn p s words pool body)
+  on-head words pool Closed e = refuses _ refusal.Order 0
+  on-head words pool (Opened start) e =
+      leaves (Head words pool) (λ n. simp e) (shape-turns s body (s .count) (Headed start) types.headShape words pool)
+  on-head words pool (Headed start) e = refuses _ refusal.Order 0
 
   on-result : (tag x : ℕ) (p : Phase) → Leaves (Result tag x) s body (resultIn p s tag x body)
   on-result tag x Closed = refuses _ refusal.Order 0
   on-result tag x (Opened start) = refuses _ refusal.Order 0
-  on-result tag x (Asynced start) = refuses _ refusal.Order 0
-  on-result tag x (Parametered start) =
-      leaves (Result tag x) (λ n. refl) (shape-turns s body (s .count) Closed resultShape (tag ∷ x ∷ []) [])
+  on-result tag x (Headed start) =
+      leaves (Result tag x) (λ n. refl) (shape-turns s body (s .count) Closed types.resultShape (tag ∷ x ∷ []) [])
 
   withdraws : (start : ℕ) → start ≡ startNumber (s .phase) → Leaves Abandon s body (turned (withdrawn s start) body)
   unfolding numberOf
@@ -288,20 +276,17 @@ module _ (s : Section) (body : List ℕ) where
   on-abandon : (p : Phase) → s .phase ≡ p → Leaves Abandon s body (abandonIn p s body)
   on-abandon Closed e = refuses _ refusal.Order 0
   on-abandon (Opened start) e = withdraws start (simp e)
-  on-abandon (Asynced start) e = withdraws start (simp e)
-  on-abandon (Parametered start) e = withdraws start (simp e)
+  on-abandon (Headed start) e = withdraws start (simp e)
 
 step-leaves : (k : Step) (s : Section) (body : List ℕ) → Leaves k s body (turn k s body)
-unfolding asyncing paraming resulting abandoning
+unfolding heading resulting abandoning
 step-leaves (Row row pool) s body = leaves s body (Row row pool) (λ n. refl) (row-turns s body row pool)
 step-leaves Open s body = leaves s body Open (λ n. refl) (open-turns s body)
-step-leaves (Async a) s body =
-    either (Leaves (Async a) s body) (sounds s (length body)) _ _ (on-async s body a (s .phase) refl) (refuses s body _ refusal.Limit 0)
-step-leaves (Params words pool) s body =
-    let limit = refuses s body (Params words pool) refusal.Limit 0 in
-    either (Leaves (Params words pool) s body) (sounds s (length body)) _ _
-    (either (Leaves (Params words pool) s body) (ltb 16384 (length words)) _ _ limit
-    (either (Leaves (Params words pool) s body) (ltb 65536 (length pool)) _ _ limit (on-params s body words pool (s .phase) refl)))
+step-leaves (Head words pool) s body =
+    let limit = refuses s body (Head words pool) refusal.Limit 0 in
+    either (Leaves (Head words pool) s body) (sounds s (length body)) _ _
+    (either (Leaves (Head words pool) s body) (ltb 16384 (length words)) _ _ limit
+    (either (Leaves (Head words pool) s body) (ltb 65536 (length pool)) _ _ limit (on-head s body words pool (s .phase) refl)))
     limit
 step-leaves (Result tag x) s body =
     either (Leaves (Result tag x) s body) (sounds s (length body)) _ _ (on-result s body tag x (s .phase)) (refuses s body _ refusal.Limit 0)
@@ -391,8 +376,8 @@ numbers-given : (x : List ℕ) (s : Section) → given x ≡ Is s
     → numbersOf s ≡ getD x 0 0 ∷ getD x 1 0 ∷ getD x 2 0 ∷ getD x 3 0 ∷ getD x 4 0 ∷ []
 unfolding given
 numbers-given x s e =
-    go (ltb (getD x 0 0) (2 ^ 32)) (ltb (getD x 2 0) (2 ^ 32)) (eqb (getD x 3 0) 0) (eqb (getD x 4 0) 0) (eqb (getD x 3 0) 1) (eqb (getD x 3 0) 2)
-    (eqb (getD x 3 0) 3) refl refl refl refl refl e
+    go (ltb (getD x 0 0) (2 ^ 32)) (ltb (getD x 2 0) (2 ^ 32)) (eqb (getD x 3 0) 0) (eqb (getD x 4 0) 0) (eqb (getD x 3 0) 1) (eqb (getD x 3 0) 2) refl
+    refl refl refl e
   where
     phase : ℕ
     phase = getD x 3 0
@@ -411,21 +396,18 @@ numbers-given x s e =
         let same : t ≡ s = cc in
         ap numbersOf (sym same) ∙ (λ i. getD x 0 0 ∷ getD x 1 0 ∷ getD x 2 0 ∷ a i ∷ b i ∷ [])
 
-    go : (a b c d f g h : Bool)
-        → eqb phase 0 ≡ c → eqb start 0 ≡ d → eqb phase 1 ≡ f → eqb phase 2 ≡ g → eqb phase 3 ≡ h
+    go : (a b c d f g : Bool) → eqb phase 0 ≡ c → eqb start 0 ≡ d → eqb phase 1 ≡ f → eqb phase 2 ≡ g
         → cond a
         (cond b
-        (cond c (cond d (section Closed) Not)
-        (cond f (section (Opened start)) (cond g (section (Asynced start)) (cond h (section (Parametered start)) Not)))) Not) Not ≡ Is s
+        (cond c (cond d (section Closed) Not) (cond f (section (Opened start)) (cond g (section (Headed start)) Not))) Not) Not ≡ Is s
         → numbersOf s ≡ getD x 0 0 ∷ getD x 1 0 ∷ getD x 2 0 ∷ phase ∷ start ∷ []
-    go true true true true f g h p q r t u e = is Closed e (sym (eqb-true _ _ p)) (sym (eqb-true _ _ q))
-    go true true true false f g h p q r t u e = impossible cc
-    go true true false d true g h p q r t u e = is (Opened start) e (sym (eqb-true _ _ r)) refl
-    go true true false d false true h p q r t u e = is (Asynced start) e (sym (eqb-true _ _ t)) refl
-    go true true false d false false true p q r t u e = is (Parametered start) e (sym (eqb-true _ _ u)) refl
-    go true true false d false false false p q r t u e = impossible cc
-    go true false c d f g h p q r t u e = impossible cc
-    go false b c d f g h p q r t u e = impossible cc
+    go true true true true f g p q r t e = is Closed e (sym (eqb-true _ _ p)) (sym (eqb-true _ _ q))
+    go true true true false f g p q r t e = impossible cc
+    go true true false d true g p q r t e = is (Opened start) e (sym (eqb-true _ _ r)) refl
+    go true true false d false true p q r t e = is (Headed start) e (sym (eqb-true _ _ t)) refl
+    go true true false d false false p q r t e = impossible cc
+    go true false c d f g p q r t e = impossible cc
+    go false b c d f g p q r t e = impossible cc
 
 five : (x : List ℕ) → length x ≡ 5 → getD x 0 0 ∷ getD x 1 0 ∷ getD x 2 0 ∷ getD x 3 0 ∷ getD x 4 0 ∷ [] ≡ x
 five [] e = absurd (omega (arith, e))
@@ -489,8 +471,7 @@ changes-nothing-else =
       put-name = λ pool start size. stores (unsigned size ++ partOf pool start size);
       put-extern = λ pool ws. stores (externPart pool ws);
       write-type = writes-type;
-      write-async = λ a out at. writes-shape types.asyncShape (a ∷ []) 0 [] out at;
-      write-params = λ first words pool out at. writes-shape (types.paramsShape first) words 0 pool out at;
+      write-head = λ words pool out at. writes-shape types.headShape words 0 pool out at;
       write-result = λ tag x out at. writes-shape types.resultShape (tag ∷ x ∷ []) 0 [] out at;
       write-import = writes-import;
       write-canonical = writes-canonical;

@@ -2,7 +2,6 @@
 use Prim.Native.Nat.{ℕ, _+_, _≤_}
 use native.Mathlib.Omega.{arith}
 use mathlib.Core.Path.{_≡_}
-use mathlib.Core.Bool.{Bool, true}
 use mathlib.Core.List.{List, [], _∷_, _++_}
 use borrow.Author.Tests.{lt-ltb, le-ltb}
 use lib.ListN.{length, take, replicate, length-take, length-replicate}
@@ -14,7 +13,7 @@ use Rattle.fields.specs.declared.Field.the-variants as field
 use Rattle.fields.specs.Table.{twoOf}
 use Rattle.fields.specs.Answers.{numberOfRefusal, numberOf}
 use Rattle.sections.specs.declared.Phase.{Phase}
-use Rattle.sections.specs.declared.Phase.the-variants.{Closed, Opened, Parametered}
+use Rattle.sections.specs.declared.Phase.the-variants.{Closed, Opened, Headed}
 use Rattle.sections.specs.declared.Section.{Section}
 use Rattle.sections.specs.Finish.{framing, finishing}
 use Rattle.sections.specs.Section.{fresh, knownFamily, sounds}
@@ -232,46 +231,39 @@ rowSteps =
 abbrev pub openSteps : List (Section × List ℕ)
 openSteps = (fresh 7, room) ∷ (past, []) ∷ (fresh 8, room) ∷ (entry (Opened 0), room) ∷ (full, room) ∷ []
 
--- OK, LIMIT, TAG, ROOM, ORDER
-abbrev pub asyncSteps : List (Section × ℕ × List ℕ)
-asyncSteps = (entry (Opened 0), 1, room) ∷ (past, 1, []) ∷ (entry (Opened 0), 2, room) ∷ (entry (Opened 0), 1, []) ∷ (fresh 7, 1, room) ∷ []
-
 -- OK, LIMIT, ROW, TAG, RANGE, TEXT, ROOM, ORDER
-abbrev pub paramsSteps : List (Section × List ℕ × List ℕ × List ℕ)
-paramsSteps =
-    (entry (Opened 0), 0 ∷ [], [], room)
-    ∷ (past, 0 ∷ [], [], [])
+abbrev pub headSteps : List (Section × List ℕ × List ℕ × List ℕ)
+headSteps =
+    (entry (Opened 0), 0 ∷ 0 ∷ [], [], room)
+    ∷ (past, 0 ∷ 0 ∷ [], [], [])
     ∷ (entry (Opened 0), [], [], room)
-    ∷ (entry (Opened 0), 1 ∷ 0 ∷ 0 ∷ 2 ∷ 0 ∷ [], [], room)
-    ∷ (entry (Opened 0), 1 ∷ 0 ∷ 1 ∷ 0 ∷ 0 ∷ [], [], room)
-    ∷ (entry (Opened 0), 1 ∷ 0 ∷ 1 ∷ 0 ∷ 0 ∷ [], 0xff ∷ [], room)
-    ∷ (entry (Opened 0), 0 ∷ [], [], [])
-    ∷ (fresh 7, 0 ∷ [], [], room)
+    ∷ (entry (Opened 0), 2 ∷ 0 ∷ [], [], room)
+    ∷ (entry (Opened 0), 0 ∷ 1 ∷ 0 ∷ 1 ∷ 0 ∷ 0 ∷ [], [], room)
+    ∷ (entry (Opened 0), 0 ∷ 1 ∷ 0 ∷ 1 ∷ 0 ∷ 0 ∷ [], 0xff ∷ [], room)
+    ∷ (entry (Opened 0), 0 ∷ 0 ∷ [], [], [])
+    ∷ (entry (Headed 0), 0 ∷ 0 ∷ [], [], room)
     ∷ []
 
 -- OK, LIMIT, TAG, ROOM, ORDER
 abbrev pub resultSteps : List (Section × ℕ × ℕ × List ℕ)
 resultSteps =
-    (entry (Parametered 0), 2, 0, room)
+    (entry (Headed 0), 2, 0, room)
     ∷ (past, 2, 0, [])
-    ∷ (entry (Parametered 0), 3, 0, room)
-    ∷ (entry (Parametered 0), 2, 0, [])
+    ∷ (entry (Headed 0), 3, 0, room)
+    ∷ (entry (Headed 0), 2, 0, [])
     ∷ (fresh 7, 2, 0, room)
     ∷ []
 
--- the parts of a function without a state: OK, TAG, ROOM; OK, LIMIT, ROW, TAG, RANGE, TEXT, ROOM; OK, TAG, ROOM
-abbrev pub asyncParts : List (ℕ × List ℕ × ℕ)
-asyncParts = (1, room, 0) ∷ (2, room, 0) ∷ (1, [], 0) ∷ []
-
-abbrev pub paramsParts : List (Bool × List ℕ × List ℕ × List ℕ × ℕ)
-paramsParts =
-    (true, 0 ∷ [], [], room, 0)
-    ∷ (true, zeros 16385, [], room, 0)
-    ∷ (true, [], [], room, 0)
-    ∷ (true, 1 ∷ 0 ∷ 0 ∷ 2 ∷ 0 ∷ [], [], room, 0)
-    ∷ (true, 1 ∷ 0 ∷ 1 ∷ 0 ∷ 0 ∷ [], [], room, 0)
-    ∷ (true, 1 ∷ 0 ∷ 1 ∷ 0 ∷ 0 ∷ [], 0xff ∷ [], room, 0)
-    ∷ (true, 0 ∷ [], [], [], 0)
+-- the parts of a function without a state: OK, LIMIT, ROW, TAG, RANGE, TEXT, ROOM; OK, TAG, ROOM
+abbrev pub headParts : List (List ℕ × List ℕ × List ℕ × ℕ)
+headParts =
+    (0 ∷ 0 ∷ [], [], room, 0)
+    ∷ (zeros 16385, [], room, 0)
+    ∷ ([], [], room, 0)
+    ∷ (2 ∷ 0 ∷ [], [], room, 0)
+    ∷ (0 ∷ 1 ∷ 0 ∷ 1 ∷ 0 ∷ 0 ∷ [], [], room, 0)
+    ∷ (0 ∷ 1 ∷ 0 ∷ 1 ∷ 0 ∷ 0 ∷ [], 0xff ∷ [], room, 0)
+    ∷ (0 ∷ 0 ∷ [], [], [], 0)
     ∷ []
 
 abbrev pub resultParts : List (ℕ × ℕ × List ℕ × ℕ)

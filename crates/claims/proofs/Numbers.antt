@@ -42,7 +42,7 @@ use Rattle.instances.specs.Write.{measuredCoreInstance, writeCoreInstance, meas
 use Rattle.sections.specs.declared.Section.{Section}
 use Rattle.sections.specs.Finish.{framing, finishing}
 use Rattle.sections.specs.Section.{knownFamily, holdsAt, sounds, measuredFamily, familyBytes, writeFamily}
-use Rattle.sections.specs.Steps.{Turn, rowing, opening, asyncing, paraming, resulting, abandoning}
+use Rattle.sections.specs.Steps.{Turn, rowing, opening, heading, resulting, abandoning}
 use Rattle.sheets.specs.Frame as frame
 use Rattle.sheets.specs.Frame.{number, words, rowsFrom}
 use Rattle.sheets.specs.Sheet.{familyOf, tries, joined, finished, sheeted}
@@ -55,7 +55,7 @@ use Rattle.claims.specs.Kept.{numberOfRead}
 use Rattle.claims.specs.Numbers.{Among, Exactly, RefusesBy}
 use Rattle.claims.proofs.NumberLaws.{Listed, any-shape, Tells, told, read-told, refusal-told, each-any, Allowed, all-allowed, Basic, Measures, measured-why, measured-row-why, stored-why, nameless-plan}
 use Rattle.claims.proofs.ReadNumbers.{item-why, refusal-why}
-use Rattle.claims.proofs.StepNumbers.{Named, canonical-why, family-why, write-canonical-why, write-family-why, row-why, open-why, async-why, params-why, result-why, abandon-why, finish-why, sheet-why}
+use Rattle.claims.proofs.StepNumbers.{Named, canonical-why, family-why, write-canonical-why, write-family-why, row-why, open-why, head-why, result-why, abandon-why, finish-why, sheet-why}
 use Rattle.claims.proofs.NumberInputs as input
 use Rattle.claims.proofs.NumberInputs.{each, meets, zeros, zeros-length, too-big}
 use Rattle.numbers.proofs.Impossible.{impossible}
@@ -107,22 +107,11 @@ part-numbers ns s words pool out at room h =
     told (ns ++ 8 ∷ []) (writeShape s words 0 pool out at .answer)
     (stored-why (Listed (ns ++ 8 ∷ [])) room (measured s words 0 pool) (written s pool words 0) out at (measured-why (Listed (ns ++ 8 ∷ [])) s words 0 pool h))
 
--- a word or two are no row too long
+-- two words are no row too long
 few-words : {X : Type 0} (b : Bool) → b ≡ true → (b ≡ false) ⊎ (b ≡ false) → X
 few-words true e (inl k) = impossible cc
 few-words true e (inr k) = impossible cc
 few-words false e k = impossible cc
-
-async-part : (a : ℕ) (out : List ℕ) (at : ℕ) → Among (numberOf (writeShape types.asyncShape (a ∷ []) 0 [] out at .answer)) (0 ∷ 4 ∷ 8 ∷ [])
-unfolding numberOfRefusal rowWidth widths wide
-async-part a out at =
-    part-numbers (4 ∷ []) types.asyncShape (a ∷ []) [] out at refl
-    (record {
-      limit = few-words;
-      width = λ e. impossible cc;
-      tag = refl;
-      names = nameless-plan (Listed (4 ∷ 8 ∷ [])) types.asyncShape refl;
-    })
 
 result-part : (t x : ℕ) (out : List ℕ) (at : ℕ) → Among (numberOf (writeShape types.resultShape (t ∷ x ∷ []) 0 [] out at .answer)) (0 ∷ 4 ∷ 8 ∷ [])
 unfolding numberOfRefusal rowWidth widths wide
@@ -135,16 +124,15 @@ result-part t x out at =
       names = nameless-plan (Listed (4 ∷ 8 ∷ [])) types.resultShape refl;
     })
 
-params-part : (first : Bool) (words pool out : List ℕ) (at : ℕ)
-    → Among (numberOf (writeShape (types.paramsShape first) words 0 pool out at .answer)) (0 ∷ 1 ∷ 3 ∷ 4 ∷ 5 ∷ 6 ∷ 8 ∷ [])
-unfolding numberOfRefusal
-params-part first words pool out at =
-    part-numbers (1 ∷ 3 ∷ 4 ∷ 5 ∷ 6 ∷ []) (types.paramsShape first) words pool out at refl
+head-part : (words pool out : List ℕ) (at : ℕ) → Among (numberOf (writeShape types.headShape words 0 pool out at .answer)) (0 ∷ 1 ∷ 3 ∷ 4 ∷ 5 ∷ 6 ∷ 8 ∷ [])
+unfolding numberOfRefusal widths wide
+head-part words pool out at =
+    part-numbers (1 ∷ 3 ∷ 4 ∷ 5 ∷ 6 ∷ []) types.headShape words pool out at refl
     (record {
       limit = λ b e k. refl;
       width = λ e. refl;
       tag = refl;
-      names = each-any (Allowed (Listed (1 ∷ 3 ∷ 4 ∷ 5 ∷ 6 ∷ 8 ∷ []))) (all-allowed (Listed (1 ∷ 3 ∷ 4 ∷ 5 ∷ 6 ∷ 8 ∷ [])) refl (λ byte. refl)) (plan (types.paramsShape first));
+      names = each-any (Allowed (Listed (1 ∷ 3 ∷ 4 ∷ 5 ∷ 6 ∷ 8 ∷ []))) (all-allowed (Listed (1 ∷ 3 ∷ 4 ∷ 5 ∷ 6 ∷ 8 ∷ [])) refl (λ byte. refl)) (plan types.headShape);
     })
 
 item-numbers : (found : Found) (kind lead g : ℕ) (input row : List ℕ)
@@ -254,17 +242,11 @@ module _ (s : Section) where
       let ns : List ℕ = 1 ∷ 2 ∷ 9 ∷ 10 ∷ [] in
       told ns (opening s body .gave .answer) (open-why (Listed ns) refl s body refl refl refl)
 
-  async-numbers : (a : ℕ) (body : List ℕ) → Among (numberOf (asyncing s a body .gave .answer)) (0 ∷ 1 ∷ 4 ∷ 8 ∷ 9 ∷ [])
+  head-numbers : (words pool body : List ℕ) → Among (numberOf (heading s words pool body .gave .answer)) (0 ∷ 1 ∷ 3 ∷ 4 ∷ 5 ∷ 6 ∷ 8 ∷ 9 ∷ [])
   unfolding numberOfRefusal
-  async-numbers a body =
-      let ns : List ℕ = 1 ∷ 4 ∷ 8 ∷ 9 ∷ [] in
-      told ns (asyncing s a body .gave .answer) (async-why (Listed ns) refl s body refl refl refl a)
-
-  params-numbers : (words pool body : List ℕ) → Among (numberOf (paraming s words pool body .gave .answer)) (0 ∷ 1 ∷ 3 ∷ 4 ∷ 5 ∷ 6 ∷ 8 ∷ 9 ∷ [])
-  unfolding numberOfRefusal
-  params-numbers words pool body =
+  head-numbers words pool body =
       let ns : List ℕ = 1 ∷ 3 ∷ 4 ∷ 5 ∷ 6 ∷ 8 ∷ 9 ∷ [] in
-      told ns (paraming s words pool body .gave .answer) (params-why (Listed ns) refl s body refl refl refl refl refl (λ byte. refl) words pool)
+      told ns (heading s words pool body .gave .answer) (head-why (Listed ns) refl s body refl refl refl refl refl (λ byte. refl) words pool)
 
   result-numbers : (t x : ℕ) (body : List ℕ) → Among (numberOf (resulting s t x body .gave .answer)) (0 ∷ 1 ∷ 4 ∷ 8 ∷ 9 ∷ [])
   unfolding numberOfRefusal
@@ -319,7 +301,7 @@ long =
     (too-big 4294967295 (omega arith) (zeros 4294967295) input.room (zeros-length 4294967295))
 
 pub refuses-by : RefusesBy
-unfolding store partOf bytesOf takeIn within32 numberIn more numbers.numberOf numbers.numberOfTaken text.text text.rest text.step name primvaltype valtype optional resultlist functype flag representation destructor indexed canonopt slotAt slotsAt slots externname slotInside externInside externPart typebound externdesc argument coresortidx sortidx bytes wide value optionalValue named optionalName reference flaw judge measuredRow rowBytes writeRow repeated seq widths rowWidth shapeIn view walk outs numberOfRefusal numberOf sized measured stored writeShape measuredType writeType measuredImport writeImport measuredCanonical canonicalBytes writeCanonical measuredCoreInstance writeCoreInstance measuredInstance writeInstance kindIn kindOf leadGrade readType readImport readItem scannedItem roomed scanIndex scanName scanPrimitive scanValue headScan firstScan secondScan scanExtern scanReference slotScan endScan scan primitive fillValue fillName fill knownFamily holdsAt sounds measuredFamily familyBytes writeFamily rowing opening asyncing paraming resulting abandoning framing finishing number words rowsFrom frame.framed familyOf tries joined finished sheeted given
+unfolding store partOf bytesOf takeIn within32 numberIn more numbers.numberOf numbers.numberOfTaken text.text text.rest text.step name primvaltype valtype optional resultlist functype flag representation destructor indexed canonopt slotAt slotsAt slots externname slotInside externInside externPart typebound externdesc argument coresortidx sortidx bytes wide value optionalValue named optionalName reference flaw judge measuredRow rowBytes writeRow repeated seq widths rowWidth shapeIn view walk outs numberOfRefusal numberOf sized measured stored writeShape measuredType writeType measuredImport writeImport measuredCanonical canonicalBytes writeCanonical measuredCoreInstance writeCoreInstance measuredInstance writeInstance kindIn kindOf leadGrade readType readImport readItem scannedItem roomed scanIndex scanName scanPrimitive scanValue headScan firstScan secondScan scanExtern scanReference slotScan endScan scan primitive fillValue fillName fill knownFamily holdsAt sounds measuredFamily familyBytes writeFamily rowing opening heading resulting abandoning framing finishing number words rowsFrom frame.framed familyOf tries joined finished sheeted given
 refuses-by =
     record {
       copy = exactly (λ x. store-numbers (x .0) (x .1) (x .2)) input.copies refl;
@@ -336,8 +318,7 @@ refuses-by =
       measure-type = exactly (λ x. type-numbers (x .0) (x .1)) input.types (rw (zeros-length 16385));
       write-type = exactly (λ x. write-type-numbers (x .0) (x .1) (x .2) (x .3)) input.writtenTypes (rw (zeros-length 16385));
       read-type = exactly (λ x. read-type-numbers (x .0) (x .1) (x .2)) input.readTypes refl;
-      write-async = exactly (λ x. async-part (x .0) (x .1) (x .2)) input.asyncParts refl;
-      write-params = exactly (λ x. params-part (x .0) (x .1) (x .2) (x .3) (x .4)) input.paramsParts (rw (zeros-length 16385));
+      write-head = exactly (λ x. head-part (x .0) (x .1) (x .2) (x .3)) input.headParts (rw (zeros-length 16385));
       write-result = exactly (λ x. result-part (x .0) (x .1) (x .2) (x .3)) input.resultParts refl;
       measure-import = exactly (λ x. import-numbers (x .0) (x .1)) input.imports (rw (zeros-length 16385));
       write-import = exactly (λ x. write-import-numbers (x .0) (x .1) (x .2) (x .3)) input.writtenImports (rw (zeros-length 16385));
@@ -351,8 +332,7 @@ refuses-by =
       write-by = exactly (λ x. write-family-numbers (x .1) (x .2) (x .3) (x .4) (x .0)) input.byFamily (rw (zeros-length 16385));
       row = exactly (λ x. row-numbers (x .0) (x .1) (x .2) (x .3)) input.rowSteps (rw (zeros-length 16385));
       open-entry = exactly (λ x. open-numbers (x .0) (x .1)) input.openSteps refl;
-      make-async = exactly (λ x. async-numbers (x .0) (x .1) (x .2)) input.asyncSteps refl;
-      params = exactly (λ x. params-numbers (x .0) (x .1) (x .2) (x .3)) input.paramsSteps refl;
+      head = exactly (λ x. head-numbers (x .0) (x .1) (x .2) (x .3)) input.headSteps refl;
       result = exactly (λ x. result-numbers (x .0) (x .1) (x .2) (x .3)) input.resultSteps refl;
       abandon = exactly (λ x. abandon-numbers (x .0) (x .1)) input.abandonSteps refl;
       finish = exactly (λ x. finish-numbers (x .0) (x .1) (x .2)) input.finishes long;
@@ -363,12 +343,9 @@ refuses-by =
       c-open =
           exactly (λ x. step-numbers (2 ∷ 9 ∷ 10 ∷ []) (x .0) (λ s. opening s (x .1)) (x .1) (λ s. open-numbers s (x .1)))
           (each (λ x. (numbersOf (x .0), x .1)) input.openSteps) refl;
-      c-async =
-          exactly (λ x. step-numbers (4 ∷ 8 ∷ 9 ∷ []) (x .0) (λ s. asyncing s (x .1) (x .2)) (x .2) (λ s. async-numbers s (x .1) (x .2)))
-          (each (λ x. (numbersOf (x .0), x .1, x .2)) input.asyncSteps) refl;
-      c-params =
-          exactly (λ x. step-numbers (3 ∷ 4 ∷ 5 ∷ 6 ∷ 8 ∷ 9 ∷ []) (x .0) (λ s. paraming s (x .1) (x .2) (x .3)) (x .3) (λ s. params-numbers s (x .1) (x .2) (x .3)))
-          (each (λ x. (numbersOf (x .0), x .1, x .2, x .3)) input.paramsSteps) refl;
+      c-head =
+          exactly (λ x. step-numbers (3 ∷ 4 ∷ 5 ∷ 6 ∷ 8 ∷ 9 ∷ []) (x .0) (λ s. heading s (x .1) (x .2) (x .3)) (x .3) (λ s. head-numbers s (x .1) (x .2) (x .3)))
+          (each (λ x. (numbersOf (x .0), x .1, x .2, x .3)) input.headSteps) refl;
       c-result =
           exactly (λ x. step-numbers (4 ∷ 8 ∷ 9 ∷ []) (x .0) (λ s. resulting s (x .1) (x .2) (x .3)) (x .3) (λ s. result-numbers s (x .1) (x .2) (x .3)))
           (each (λ x. (numbersOf (x .0), x .1, x .2, x .3)) input.resultSteps) refl;

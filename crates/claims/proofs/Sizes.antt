@@ -3,7 +3,7 @@ use Prim.Native.Nat.{ℕ, zero, suc, _+_, _*_, _^_, _≤_, _<_}
 use native.Mathlib.Nat.{suc-mul}
 use native.Mathlib.Omega.{arith}
 use mathlib.Core.Path.{_≡_, refl, ap, _∙_}
-use mathlib.Core.Bool.{Bool, true, false}
+use mathlib.Core.Bool.{true}
 use mathlib.Core.List.{List, [], _∷_}
 use borrow.Author.Tests.{le-leb}
 use lib.ListN.{length, replicate, length-append, length-replicate}
@@ -31,7 +31,7 @@ use Rattle.writing.proofs.LargestLaws.{bounded, no-larger}
 use Rattle.writing.proofs.RowLaws.{counted-known}
 use Rattle.writing.proofs.SizeLaws.{inside-length}
 use Rattle.types.specs.Table.{label}
-use Rattle.types.specs.Write.{asyncShape, paramsShape, resultShape, measuredType}
+use Rattle.types.specs.Write.{headShape, resultShape, measuredType}
 use Rattle.types.proofs.Rows.{type-row}
 use Rattle.types.proofs.StepLaws.{step-row}
 use Rattle.imports.proofs.Rows.{import-row}
@@ -62,14 +62,9 @@ step-bound s t words pool size e short =
     let k = measured-sized s words 0 pool refl size e in
     no-larger s t (0 ∷ words) pool size (step-row s pool words k (short (k .width) (k .short)) .0)
 
-params-bound : (first : Bool) (words pool : List ℕ) (size : ℕ) → measured (paramsShape first) words 0 pool ≡ Size size → size ≤ largestRow
+head-bound : (words pool : List ℕ) (size : ℕ) → measured headShape words 0 pool ≡ Size size → size ≤ largestRow
 unfolding rowWidth widths wide
-params-bound true words pool size e = step-bound (paramsShape true) refl words pool size e (λ w h. omega (arith, w, h))
-params-bound false words pool size e = step-bound (paramsShape false) refl words pool size e (λ w h. omega (arith, w, h))
-
-async-bound : (a : ℕ) (size : ℕ) → measured asyncShape (a ∷ []) 0 [] ≡ Size size → size ≤ largestRow
-unfolding widths wide
-async-bound a size e = step-bound asyncShape refl (a ∷ []) [] size e (λ w h. omega arith)
+head-bound words pool size e = step-bound headShape refl words pool size e (λ w h. omega (arith, w, h))
 
 result-bound : (tag x : ℕ) (size : ℕ) → measured resultShape (tag ∷ x ∷ []) 0 [] ≡ Size size → size ≤ largestRow
 unfolding widths wide
@@ -161,8 +156,7 @@ pub no-row-too-big : NoRowTooBig
 no-row-too-big =
     record {
       rows = λ family row pool size e. (family-size family row pool size e, row-bound family row pool size e);
-      async = async-bound;
-      params = params-bound;
+      head = head-bound;
       result = result-bound;
       reckoned = refl;
       below = omega arith;

@@ -8,8 +8,6 @@ use lib.ListN.{length, take}
 use Rattle.numbers.specs.Leb.{unsigned}
 use Rattle.fields.specs.declared.Answer.{Answer}
 use Rattle.fields.specs.declared.Answer.the-variants.{Size, Refused}
-use Rattle.fields.specs.declared.Field.{Field}
-use Rattle.fields.specs.declared.Field.the-variants as field
 use Rattle.fields.specs.declared.Found.the-variants.{Is}
 use Rattle.fields.specs.declared.Leaf.{Leaf}
 use Rattle.fields.specs.declared.Leaf.the-variants.{Fine, Bad}
@@ -24,7 +22,7 @@ use Rattle.fields.specs.Answers.{Left}
 use Rattle.writing.specs.Write.{measured, written, stored, writeShape}
 use Rattle.writing.proofs.TableRows.{every, of-every}
 use Rattle.types.specs.Table as types
-use Rattle.types.specs.Write.{measuredType}
+use Rattle.types.specs.Write.{headShape, resultShape, measuredType}
 use Rattle.imports.specs.Table as imports
 use Rattle.imports.specs.Write.{measuredImport}
 use Rattle.canonicals.specs.Table as canonicals
@@ -33,13 +31,12 @@ use Rattle.canonicals.specs.Write.{canonicalBytes, measuredCanonical, writeCano
 use Rattle.instances.specs.Table as instances
 use Rattle.instances.specs.Write.{measuredCoreInstance, measuredInstance}
 use Rattle.sections.specs.declared.Phase.{Phase}
-use Rattle.sections.specs.declared.Phase.the-variants.{Closed, Opened, Asynced, Parametered}
+use Rattle.sections.specs.declared.Phase.the-variants.{Closed, Opened, Headed}
 use Rattle.sections.specs.declared.Section.{Section}
 use Rattle.sections.specs.Finish.{framed, framing, finishing}
 use Rattle.sections.specs.Section.{Entries, Types, Canonicals, Imports, CoreInstances, Instances, None, entriesOf, measuredBy, opened, sounds, measuredFamily, familyBytes, writeFamily}
-use Rattle.sections.specs.Steps.{Turn, wrote, taken, asyncIn, paramsIn, resultIn, abandonIn, rowing, opening, asyncing, paraming, resulting, abandoning}
+use Rattle.sections.specs.Steps.{Turn, wrote, taken, headIn, resultIn, abandonIn, rowing, opening, heading, resulting, abandoning}
 use Rattle.sections.proofs.FamilyLaws.{family-stored}
-use Rattle.sections.proofs.TurnLaws.{asyncShape, paramsShape, resultShape}
 use Rattle.sheets.specs.Frame as frame
 use Rattle.sheets.specs.Frame.{Rows, Are, Broken, poolOf}
 use Rattle.sheets.specs.Sheet as sheet
@@ -143,8 +140,7 @@ module _ (P : Refusal → Type 0) (limit : P refusal.Limit) (s : Section) (body 
       go : (p : Phase) → Turns (abandonIn p s body)
       go Closed = order
       go (Opened start) = tt
-      go (Asynced start) = tt
-      go (Parametered start) = tt
+      go (Headed start) = tt
 
   -- the words of an entry's shape, in their turn
   module _ (room : P refusal.Room) (order : P refusal.Order) (tag : P refusal.Tag) where
@@ -154,25 +150,6 @@ module _ (P : Refusal → Type 0) (limit : P refusal.Limit) (s : Section) (body 
     words-why count phase shape words pool h =
         wrote-why count phase (stored (measured shape words 0 pool) (written shape pool words 0) body (s .used))
         (stored-why P room (measured shape words 0 pool) (written shape pool words 0) body (s .used) (measured-why P shape words 0 pool h))
-
-    pub async-why : (a : ℕ) → Turns (asyncing s a body)
-    unfolding asyncing rowWidth widths wide
-    async-why a = on-test Turns (sounds s (length body)) (go (s .phase)) limit
-      where
-        fields : Measures P asyncShape (a ∷ []) 0 []
-        fields =
-            record {
-              limit = λ b e k. limit;
-              width = λ e. impossible cc;
-              tag = tag;
-              names = nameless-plan P asyncShape refl;
-            }
-
-        go : (p : Phase) → Turns (asyncIn p s a body)
-        go Closed = order
-        go (Opened start) = words-why (s .count) (Asynced start) asyncShape (a ∷ []) [] fields
-        go (Asynced start) = order
-        go (Parametered start) = order
 
     pub result-why : (t x : ℕ) → Turns (resulting s t x body)
     unfolding resulting rowWidth widths wide
@@ -190,29 +167,27 @@ module _ (P : Refusal → Type 0) (limit : P refusal.Limit) (s : Section) (body 
         go : (p : Phase) → Turns (resultIn p s t x body)
         go Closed = order
         go (Opened start) = order
-        go (Asynced start) = order
-        go (Parametered start) = words-why (s .count) Closed resultShape (t ∷ x ∷ []) [] fields
+        go (Headed start) = words-why (s .count) Closed resultShape (t ∷ x ∷ []) [] fields
 
-    pub params-why : P refusal.Row → P refusal.Range → AnyText P → (words pool : List ℕ) → Turns (paraming s words pool body)
-    unfolding paraming
-    params-why row range text words pool =
+    pub head-why : P refusal.Row → P refusal.Range → AnyText P → (words pool : List ℕ) → Turns (heading s words pool body)
+    unfolding heading widths wide
+    head-why row range text words pool =
         on-test Turns (sounds s (length body))
         (on-test Turns (ltb 16384 (length words)) limit (on-test Turns (ltb 65536 (length pool)) limit (go (s .phase)))) limit
       where
-        fields : (lead : Field) → Measures P (paramsShape lead) words 0 pool
-        fields lead =
+        fields : Measures P headShape words 0 pool
+        fields =
             record {
               limit = λ b e k. limit;
               width = λ e. row;
               tag = tag;
-              names = each-any (Allowed P) (all-allowed P range text) (plan (paramsShape lead));
+              names = each-any (Allowed P) (all-allowed P range text) (plan headShape);
             }
 
-        go : (p : Phase) → Turns (paramsIn p s words pool body)
+        go : (p : Phase) → Turns (headIn p s words pool body)
         go Closed = order
-        go (Opened start) = words-why (s .count) (Parametered start) (paramsShape (field.Fixed 0x40)) words pool (fields (field.Fixed 0x40))
-        go (Asynced start) = words-why (s .count) (Parametered start) (paramsShape field.Nothing) words pool (fields field.Nothing)
-        go (Parametered start) = order
+        go (Opened start) = words-why (s .count) (Headed start) headShape words pool fields
+        go (Headed start) = order
 
   pub finish-why : P refusal.Order → P refusal.TooBig → P refusal.Room → (out : List ℕ) → Tells P (finishing s body out .answer)
   unfolding finishing framing

@@ -14,18 +14,18 @@ use Rattle.sections.specs.Section.{sounds}
 use Rattle.sections.specs.Steps.{Turn, refuse, rowing}
 use Rattle.sections.proofs.StepsAreRow as steps
 use Rattle.claims.specs.Steps.{functionRow, StepsAreRows}
-use Rattle.claims.proofs.StepsAccepted.{steps-accepted, steps-without-async-accepted}
+use Rattle.claims.proofs.StepsAccepted.{steps-accepted}
 use Rattle.claims.proofs.StepsAgain.{tried-again}
 use Rattle.claims.proofs.StepsOpen.{abandoned}
 use Rattle.numbers.proofs.Impossible.{impossible}
 
--- the row has four words more than the parameters
-row-too-long : (s : Section) (a : ℕ) (words pool : List ℕ) (tag x : ℕ) (body : List ℕ) → 16380 < length words
-    → turn (Row (functionRow a words tag x) pool) s body ≡ refuse s refusal.Limit body
+-- the row has three words more than the head
+row-too-long : (s : Section) (words pool : List ℕ) (tag x : ℕ) (body : List ℕ) → 16381 < length words
+    → turn (Row (functionRow words tag x) pool) s body ≡ refuse s refusal.Limit body
 unfolding rowing
-row-too-long s a words pool tag x body h =
-    go (sounds s (length body)) (ltb 16384 (length (functionRow a words tag x))) _
-    (lt-ltb 16384 (length (functionRow a words tag x)) (omega (arith, h, length-append words (tag ∷ x ∷ []))))
+row-too-long s words pool tag x body h =
+    go (sounds s (length body)) (ltb 16384 (length (functionRow words tag x))) _
+    (lt-ltb 16384 (length (functionRow words tag x)) (omega (arith, h, length-append words (tag ∷ x ∷ []))))
   where
     go : (b c : Bool) (t : Turn) → c ≡ true
         → cond b (cond c (refuse s refusal.Limit body) t) (refuse s refusal.Limit body) ≡ refuse s refusal.Limit body
@@ -36,11 +36,9 @@ row-too-long s a words pool tag x body h =
 pub steps-are-rows : StepsAreRows
 steps-are-rows =
     record {
-      steps-accepted = λ s a words pool tag x body h. steps-accepted s body words pool tag x h a;
-      steps-without-async-accepted = λ s words pool tag x body h. steps-without-async-accepted s body words pool tag x h;
+      steps-accepted = λ s words pool tag x body h. steps-accepted s body words pool tag x h;
       row-too-long = row-too-long;
-      steps-are-row = λ s a words pool tag x body k r. steps.steps-are-row s words pool tag x body a k r .same;
-      steps-without-async-are-row = λ s words pool tag x body k r. steps.steps-without-async-are-row s words pool tag x body k r .same;
+      steps-are-row = λ s words pool tag x body k r. steps.steps-are-row s words pool tag x body k r .same;
       abandoned = abandoned;
       tried-again = tried-again;
     }

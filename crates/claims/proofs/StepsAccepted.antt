@@ -36,20 +36,20 @@ use Rattle.writing.proofs.PutLaws.{allFields, judged-along}
 use Rattle.writing.proofs.TableLaws.{strings}
 use Rattle.writing.proofs.WholeLaws as whole
 use Rattle.writing.proofs.WholeLaws.{sized-accepted}
-use Rattle.types.specs.Write.{measuredType}
+use Rattle.types.specs.Write.{headShape, resultShape, measuredType}
 use Rattle.imports.specs.Write.{measuredImport}
 use Rattle.canonicals.specs.Write.{measuredCanonical}
 use Rattle.instances.specs.Write.{measuredCoreInstance, measuredInstance}
 use Rattle.sections.specs.declared.Phase.{Phase}
-use Rattle.sections.specs.declared.Phase.the-variants.{Closed, Opened, Asynced, Parametered}
+use Rattle.sections.specs.declared.Phase.the-variants.{Closed, Opened, Headed}
 use Rattle.sections.specs.declared.Section.{Section}
-use Rattle.sections.specs.Runs.{Params, Result, Accepted, AllAccepted}
+use Rattle.sections.specs.Runs.{Accepted, AllAccepted}
 use Rattle.sections.specs.Section.{Types, Canonicals, Imports, CoreInstances, Instances, None, measuredBy, familyBytes, measuredFamily, opened, sounds, writeFamily}
-use Rattle.sections.specs.Steps.{Turn, refuse, wrote, asyncIn, paramsFrom, paramsIn, resultIn, rowing, opening, asyncing, paraming, resulting}
+use Rattle.sections.specs.Steps.{Turn, refuse, wrote, headIn, resultIn, rowing, opening, heading, resulting}
 use Rattle.sections.proofs.FamilyLaws.{family-stored}
-use Rattle.sections.proofs.TurnLaws.{Grows, accepted-size, accepted-grows, grows-then, asyncShape, paramsShape, resultShape, row-turns, open-turns, async-turns, params-turns, result-turns}
-use Rattle.claims.specs.Steps.{functionRow, byRow, bySteps, byStepsWithoutAsync}
-use Rattle.claims.proofs.StepsOpen.{Ready, is-closed, open-ready, ready-opens, Inside, inside-sounds, grows-inside, open-inside}
+use Rattle.sections.proofs.TurnLaws.{accepted-size, accepted-grows, grows-then, row-turns, open-turns, head-turns, result-turns}
+use Rattle.claims.specs.Steps.{functionRow, byRow, bySteps}
+use Rattle.claims.proofs.StepsOpen.{Ready, is-closed, open-ready, ready-opens, inside-sounds, grows-inside, open-inside}
 use Rattle.numbers.proofs.Impossible.{impossible}
 
 -- ---- fields that are right
@@ -130,32 +130,19 @@ functionShape = manyOf field.Nothing field.Nothing field.Async field.Name field.
 abbrev groups : ℕ → Field → List Field
 groups n last = repeated n (field.Name ∷ field.Value ∷ []) ++ last ∷ []
 
--- the size of the parameters behind the lead
-abbrev paramsSize : List ℕ → List ℕ → ℕ
-paramsSize words pool = length (unsigned (word words 0) ++ strings pool (groups (word words 0) field.Nothing) (drop 1 words))
+-- the size of a head
+abbrev headSize : List ℕ → List ℕ → ℕ
+headSize words pool = 1 + length (unsigned (word words 1) ++ strings pool (groups (word words 1) field.Nothing) (drop 2 words))
 
--- what params asks of its words and its pool, async of its word, and result of its two
-record RightParams (words pool : List ℕ) : Type 0 where
-  width : length words ≡ 1 + word words 0 * 4
+-- what a head asks of its words and its pool, and a result of its two
+record RightHead (words pool : List ℕ) : Type 0 where
+  width : length words ≡ 2 + word words 1 * 4
   small : length pool ≤ 65536
-  params : Rights pool (groups (word words 0) field.Nothing) (drop 1 words)
-
-abbrev RightAsync : ℕ → Type 0
-RightAsync a = below 2 (a ∷ []) 0 ≡ Right
+  async : below 2 words 0 ≡ Right
+  params : Rights pool (groups (word words 1) field.Nothing) (drop 2 words)
 
 abbrev RightResult : ℕ → ℕ → Type 0
 RightResult tag x = optionalValue (tag ∷ x ∷ []) 0 ≡ Right
-
--- async and result
-async-right : (a size : ℕ) → Sized asyncShape (a ∷ []) 0 [] size → RightAsync a × (size ≡ 1)
-unfolding flaw wide strings bytes widths
-async-right a size k = let r = sized-rights asyncShape (a ∷ []) 0 [] size k in (r .0 .1 .1 .0, r .1)
-
-right-async : (a : ℕ) → RightAsync a → measured asyncShape (a ∷ []) 0 [] ≡ Size 1
-unfolding flaw wide strings bytes widths rowWidth
-right-async a r =
-    sized-measured asyncShape (a ∷ []) 0 [] 1
-    (rights-sized asyncShape (a ∷ []) 0 [] 1 refl (omega arith) (omega arith) (refl, (refl, (r, (refl, (refl, tt))))) refl)
 
 result-right : (tag x size : ℕ) → Sized resultShape (tag ∷ x ∷ []) 0 [] size → RightResult tag x × (size ≡ length (resultlist tag x))
 unfolding flaw wide strings bytes widths
@@ -171,34 +158,22 @@ right-result tag x r =
     (rights-sized resultShape (tag ∷ x ∷ []) 0 [] size refl (omega arith) (omega arith) (refl, (refl, (r, (refl, (refl, tt)))))
     (omega (arith, length-append (resultlist tag x) [])))
 
--- the parameters behind a lead that has no word
-data Leads : Field → Type 0 where
-  none : Leads field.Nothing
-  fixed : (b : ℕ) → Leads (field.Fixed b)
+head-right : (words pool : List ℕ) (size : ℕ) → Sized headShape words 0 pool size → RightHead words pool × (size ≡ headSize words pool)
+unfolding flaw wide strings bytes widths rowWidth
+head-right [] pool size k = absurd (omega (arith, k .width))
+head-right (a ∷ []) pool size k = absurd (omega (arith, k .width))
+head-right (a ∷ n ∷ ws) pool size k =
+    let r = sized-rights headShape (a ∷ n ∷ ws) 0 pool size k in
+    (record { width = omega (arith, k .width); small = k .small; async = r .0 .1 .1 .0; params = r .0 .1 .1 .1 .1 .1 }, omega (arith, r .1))
 
-module _ (words pool : List ℕ) where
-  params-right : (lead : Field) → Leads lead → (size : ℕ) → Sized (paramsShape lead) words 0 pool size
-      → RightParams words pool × (size ≡ length (bytes pool lead words) + paramsSize words pool)
-  unfolding flaw wide strings bytes widths rowWidth
-  params-right lead none size k =
-      let r = sized-rights (paramsShape field.Nothing) words 0 pool size k in
-      (record { width = omega (arith, k .width); small = k .small; params = r .0 .1 .1 .1 .1 .1 }, omega (arith, r .1))
-  params-right lead (fixed b) size k =
-      let r = sized-rights (paramsShape (field.Fixed b)) words 0 pool size k in
-      (record { width = omega (arith, k .width); small = k .small; params = r .0 .1 .1 .1 .1 .1 }, omega (arith, r .1))
-
-  module _ (short : length words ≤ 16384) (k : RightParams words pool) where
-    right-params : (lead : Field) → Leads lead
-        → measured (paramsShape lead) words 0 pool ≡ Size (length (bytes pool lead words) + paramsSize words pool)
-    unfolding flaw wide strings bytes widths rowWidth
-    right-params lead none =
-        sized-measured (paramsShape field.Nothing) words 0 pool (0 + paramsSize words pool)
-        (rights-sized (paramsShape field.Nothing) words 0 pool (0 + paramsSize words pool) (omega (arith, k .width)) short (k .small)
-        (refl, (refl, (refl, (refl, (refl, k .params))))) (omega arith))
-    right-params lead (fixed b) =
-        sized-measured (paramsShape (field.Fixed b)) words 0 pool (1 + paramsSize words pool)
-        (rights-sized (paramsShape (field.Fixed b)) words 0 pool (1 + paramsSize words pool) (omega (arith, k .width)) short (k .small)
-        (refl, (refl, (refl, (refl, (refl, k .params))))) (omega arith))
+right-head : (words pool : List ℕ) → length words ≤ 16384 → RightHead words pool → measured headShape words 0 pool ≡ Size (headSize words pool)
+unfolding flaw wide strings bytes widths rowWidth
+right-head [] pool short k = absurd (omega (arith, k .width))
+right-head (a ∷ []) pool short k = absurd (omega (arith, k .width))
+right-head (a ∷ n ∷ ws) pool short k =
+    sized-measured headShape (a ∷ n ∷ ws) 0 pool (headSize (a ∷ n ∷ ws) pool)
+    (rights-sized headShape (a ∷ n ∷ ws) 0 pool (headSize (a ∷ n ∷ ws) pool) (omega (arith, k .width)) short (k .small)
+    (refl, (refl, (k .async, (refl, (refl, k .params))))) (omega arith))
 
 -- ---- the row
 
@@ -240,21 +215,21 @@ module _ (pool : List ℕ) (tag x : ℕ) where
   both-size (four p q t y f) = simp length-append (omega (arith, both-size f))
 
 abbrev rowSize : List ℕ → List ℕ → ℕ → ℕ → ℕ
-rowSize words pool tag x = 1 + (paramsSize words pool + length (resultlist tag x))
+rowSize words pool tag x = headSize words pool + length (resultlist tag x)
 
-row-right : (a : ℕ) (words pool : List ℕ) (tag x size : ℕ) → Sized functionShape (functionRow a words tag x) 1 pool size
-    → RightAsync a × RightParams words pool × RightResult tag x × (size ≡ rowSize words pool tag x)
+row-right : (words pool : List ℕ) (tag x size : ℕ) → Sized functionShape (functionRow words tag x) 1 pool size
+    → RightHead words pool × RightResult tag x × (size ≡ rowSize words pool tag x)
 unfolding flaw wide strings bytes widths rowWidth
-row-right a [] pool tag x size k = absurd (omega (arith, k .width))
-row-right a (n ∷ ws) pool tag x size k =
-    let r = sized-rights functionShape (functionRow a (n ∷ ws) tag x) 1 pool size k in
+row-right [] pool tag x size k = absurd (omega (arith, k .width))
+row-right (a ∷ []) pool tag x size k = absurd (omega (arith, k .width))
+row-right (a ∷ n ∷ ws) pool tag x size k =
+    let r = sized-rights functionShape (functionRow (a ∷ n ∷ ws) tag x) 1 pool size k in
     let w : length ws ≡ n * 4 = omega (arith, k .width, length-append ws (tag ∷ x ∷ [])) in
     let f = fours n ws w in
     let c = split pool tag x f (r .0 .1 .1 .1 .1 .1) in
     let gs = groups n field.Result in
     let hs = groups n field.Nothing in (
-      r .0 .1 .1 .0,
-      record { width = omega (arith, w); small = k .small; params = c .0 },
+      record { width = omega (arith, w); small = k .small; async = r .0 .1 .1 .0; params = c .0 },
       c .1,
       omega (
         arith,
@@ -265,19 +240,20 @@ row-right a (n ∷ ws) pool tag x size k =
       ),
     )
 
-right-row : (a : ℕ) (words pool : List ℕ) (tag x : ℕ) → length words ≤ 16380 → RightAsync a → RightParams words pool → RightResult tag x
-    → Sized functionShape (functionRow a words tag x) 1 pool (rowSize words pool tag x)
+right-row : (words pool : List ℕ) (tag x : ℕ) → length words ≤ 16381 → RightHead words pool → RightResult tag x
+    → Sized functionShape (functionRow words tag x) 1 pool (rowSize words pool tag x)
 unfolding flaw wide strings bytes widths rowWidth
-right-row a [] pool tag x h ra rp rr = absurd (omega (arith, rp .width))
-right-row a (n ∷ ws) pool tag x h ra rp rr =
-    let w : length ws ≡ n * 4 = omega (arith, rp .width) in
+right-row [] pool tag x h rh rr = absurd (omega (arith, rh .width))
+right-row (a ∷ []) pool tag x h rh rr = absurd (omega (arith, rh .width))
+right-row (a ∷ n ∷ ws) pool tag x h rh rr =
+    let w : length ws ≡ n * 4 = omega (arith, rh .width) in
     let f = fours n ws w in
     let l = length-append ws (tag ∷ x ∷ []) in
     let gs = groups n field.Result in
     let hs = groups n field.Nothing in
-    rights-sized functionShape (functionRow a (n ∷ ws) tag x) 1 pool (rowSize (n ∷ ws) pool tag x) (omega (arith, w, l)) (omega (arith, h, l))
-    (rp .small)
-    (refl, (refl, (ra, (refl, (refl, join pool tag x f (rp .params) rr)))))
+    rights-sized functionShape (functionRow (a ∷ n ∷ ws) tag x) 1 pool (rowSize (a ∷ n ∷ ws) pool tag x) (omega (arith, w, l)) (omega (arith, h, l))
+    (rh .small)
+    (refl, (refl, (rh .async, (refl, (refl, join pool tag x f (rh .params) rr)))))
     (omega (
       arith,
       length-append (unsigned n) (strings pool gs (ws ++ tag ∷ x ∷ [])),
@@ -307,9 +283,9 @@ shape-accepts s body count phase shape words pool size e h =
     stored-accepts s body count phase (measured shape words 0 pool) (written shape pool words 0) size e h
 
 -- the row: the tests of an opening, and then the parts
-module _ (s : Section) (body : List ℕ) (a : ℕ) (words pool : List ℕ) (tag x : ℕ) where
+module _ (s : Section) (body : List ℕ) (words pool : List ℕ) (tag x : ℕ) where
   abbrev row : List ℕ
-  row = functionRow a words tag x
+  row = functionRow words tag x
 
   abbrev rowedBy : Bool → Bool → Bool → Bool → Bool → Turn
   rowedBy b c d e f =
@@ -369,8 +345,7 @@ module _ (s : Section) (body : List ℕ) (a : ℕ) (words pool : List ℕ) (tag 
   -- what an accepted row says
   record RightRow : Type 0 where
     ready : Ready s body
-    async : RightAsync a
-    params : RightParams words pool
+    head : RightHead words pool
     result : RightResult tag x
     room : s .used + rowSize words pool tag x ≤ length body
 
@@ -381,165 +356,87 @@ module _ (s : Section) (body : List ℕ) (a : ℕ) (words pool : List ℕ) (tag 
       let g = accepted-grows turns k in
       let found = whole.accepted (Is functionShape) row pool _ (t .1) in
       let same : found .shape ≡ functionShape = cc in
-      let parts = row-right a words pool tag x _ (subst (λ z. Sized z row 1 pool (length (familyBytes (s .family) pool row))) same (found .sized)) in
+      let parts = row-right words pool tag x _ (subst (λ z. Sized z row 1 pool (length (familyBytes (s .family) pool row))) same (found .sized)) in
       record {
         ready = row-tests k (t .0);
-        async = parts .0;
-        params = parts .1;
-        result = parts .2;
-        room = omega (arith, g .room, parts .3);
+        head = parts .0;
+        result = parts .1;
+        room = omega (arith, g .room, parts .2);
       }
 
-  says-row : length words ≤ 16380 → RightRow → Accepted (rowing s row pool body)
-  says-row h k = row-accepts (k .ready) (rowSize words pool tag x) (right-row a words pool tag x h (k .async) (k .params) (k .result)) (k .room)
+  says-row : length words ≤ 16381 → RightRow → Accepted (rowing s row pool body)
+  says-row h k = row-accepts (k .ready) (rowSize words pool tag x) (right-row words pool tag x h (k .head) (k .result)) (k .room)
 
 -- ---- the steps
 
 -- each in its turn, where the section can stand over the body
 module _ (t : Section) (new : List ℕ) (sound : sounds t (length new) ≡ true) (start : ℕ) where
-  async-accepts : t .phase ≡ Opened start → (a : ℕ) → RightAsync a → t .used + 1 ≤ length new → Accepted (asyncing t a new)
-  unfolding asyncing
-  async-accepts p a r h =
-      rw (sound, ap (λ q. asyncIn q t a new) p) (shape-accepts t new (t .count) (Asynced start) asyncShape (a ∷ []) [] 1 (right-async a r) h)
+  head-accepts : t .phase ≡ Opened start → (words pool : List ℕ) → length words ≤ 16384 → RightHead words pool
+      → t .used + headSize words pool ≤ length new → Accepted (heading t words pool new)
+  unfolding heading
+  head-accepts p words pool short k h =
+      rw (sound, le-ltb 16384 (length words) short, le-ltb 65536 (length pool) (k .small), ap (λ q. headIn q t words pool new) p)
+      (shape-accepts t new (t .count) (Headed start) headShape words pool (headSize words pool) (right-head words pool short k) h)
 
-  params-accept : (lead : Field) (words pool : List ℕ) (size : ℕ) → paramsIn (t .phase) t words pool new ≡ paramsFrom lead start t words pool new
-      → length words ≤ 16384 → length pool ≤ 65536 → measured (paramsShape lead) words 0 pool ≡ Size size → t .used + size ≤ length new
-      → Accepted (paraming t words pool new)
-  unfolding paraming
-  params-accept lead words pool size p short small m h =
-      rw (sound, le-ltb 16384 (length words) short, le-ltb 65536 (length pool) small, p)
-      (shape-accepts t new (t .count) (Parametered start) (paramsShape lead) words pool size m h)
-
-  result-accepts : t .phase ≡ Parametered start → (tag x : ℕ) → RightResult tag x → t .used + length (resultlist tag x) ≤ length new
+  result-accepts : t .phase ≡ Headed start → (tag x : ℕ) → RightResult tag x → t .used + length (resultlist tag x) ≤ length new
       → Accepted (resulting t tag x new)
   unfolding resulting
   result-accepts p tag x r h =
       rw (sound, ap (λ q. resultIn q t tag x new) p)
       (shape-accepts t new (t .count) Closed resultShape (tag ∷ x ∷ []) [] (length (resultlist tag x)) (right-result tag x r) h)
 
-module _ (s : Section) (body : List ℕ) (words pool : List ℕ) (tag x : ℕ) (short : length words ≤ 16380) where
-  -- parameters and result behind a lead, or behind the first byte
-  abbrev Rest : Section → List ℕ → Type 0
-  Rest t new = AllAccepted (Params words pool ∷ Result tag x ∷ []) t new
-
-  abbrev restSize : Field → ℕ
-  restSize lead = length (bytes pool lead words) + paramsSize words pool + length (resultlist tag x)
-
-  module _ (t : Section) (new : List ℕ) (lead : Field) (leads : Leads lead)
-      (q : paramsIn (t .phase) t words pool new ≡ paramsFrom lead (s .used) t words pool new) where
-    rest-says : {front : List ℕ} {c : ℕ} {p : Phase} → Grows s body front c p t new → Rest t new
-        → RightParams words pool × RightResult tag x × (s .used + (length front + restSize lead) ≤ length body)
-    rest-says {front} g k =
-        let params = params-turns t new lead words pool q in
-        let kp = params-right words pool lead leads _ (measured-sized (paramsShape lead) words 0 pool refl _ (accepted-size params (k .0))) in
-        let h = accepted-grows params (k .0) in
-        let result = result-turns (paraming t words pool new .gave .section) (paraming t words pool new .body) (h .stands) tag x in
-        let kr = result-right tag x _ (measured-sized resultShape (tag ∷ x ∷ []) 0 [] refl _ (accepted-size result (k .1 .0))) in
-        let all = grows-then g (grows-then h (accepted-grows result (k .1 .0))) in
-        let ps = written (paramsShape lead) pool words 0 in
-        let rs = written resultShape [] (tag ∷ x ∷ []) 0 in
-        (kp .0, kr .0, omega (arith, all .room, length-append front (ps ++ rs), length-append ps rs, kp .1, kr .1))
-
-    rest-accepted : Inside s body t new → opened (t .phase) ≡ true → RightParams words pool → RightResult tag x
-        → t .used + restSize lead ≤ length new → Rest t new
-    rest-accepted i o rp rr room =
-        let size = length (bytes pool lead words) + paramsSize words pool in
-        let short′ : length words ≤ 16384 = omega (arith, short) in
-        let m : measured (paramsShape lead) words 0 pool ≡ Size size = right-params words pool short′ rp lead leads in
-        let k : Accepted (paraming t words pool new) =
-        params-accept t new (inside-sounds i o) (s .used) lead words pool size q short′ (rp .small) m (omega (arith, room)) in
-        let turns = params-turns t new lead words pool q in
-        let g = accepted-grows turns k in
-        let n : size ≡ length (written (paramsShape lead) pool words 0) = size-same (sym m ∙ accepted-size turns k) in
-        let j = grows-inside i g refl in (
-          k,
-          (
-            result-accepts (paraming t words pool new .gave .section) (paraming t words pool new .body) (inside-sounds j (ap opened (g .stands)))
-                (s .used) (g .stands) tag x rr (omega (arith, room, n, g .used, j .size, i .size)),
-            tt,
-          ),
-        )
-
+module _ (s : Section) (body : List ℕ) (words pool : List ℕ) (tag x : ℕ) (short : length words ≤ 16381) where
   abbrev t₀ : Section
   t₀ = opening s body .gave .section
 
   abbrev b₀ : List ℕ
   b₀ = opening s body .body
 
-  opened-phase : Accepted (opening s body) → t₀ .phase ≡ Opened (s .used)
-  opened-phase k = accepted-grows (open-turns s body) k .stands
-
-  -- with async
-  steps-say : (a : ℕ) → AllAccepted (bySteps a words pool tag x) s body → RightRow s body a words pool tag x
-  unfolding bytes
-  steps-say a k =
-      let u = asyncing t₀ a b₀ in
+  steps-say : AllAccepted (bySteps words pool tag x) s body → RightRow s body words pool tag x
+  steps-say k =
+      let u = heading t₀ words pool b₀ in
       let g = accepted-grows (open-turns s body) (k .0) in
-      let async = async-turns t₀ b₀ (g .stands) a in
-      let ka = async-right a _ (measured-sized asyncShape (a ∷ []) 0 [] refl _ (accepted-size async (k .1 .0))) in
-      let h = accepted-grows async (k .1 .0) in
-      let rest =
-      rest-says (u .gave .section) (u .body) field.Nothing none (ap (λ p. paramsIn p (u .gave .section) words pool (u .body)) (h .stands))
-      (grows-then g h) (k .1 .1) in
+      let head = head-turns t₀ b₀ (g .stands) words pool in
+      let kh = head-right words pool _ (measured-sized headShape words 0 pool refl _ (accepted-size head (k .1 .0))) in
+      let h = accepted-grows head (k .1 .0) in
+      let result = result-turns (u .gave .section) (u .body) (h .stands) tag x in
+      let kr = result-right tag x _ (measured-sized resultShape (tag ∷ x ∷ []) 0 [] refl _ (accepted-size result (k .1 .1 .0))) in
+      let all = grows-then g (grows-then h (accepted-grows result (k .1 .1 .0))) in
+      let hs = written headShape pool words 0 in
+      let rs = written resultShape [] (tag ∷ x ∷ []) 0 in
       record {
         ready = open-ready s body (k .0);
-        async = ka .0;
-        params = rest .0;
-        result = rest .1;
-        room = omega (arith, rest .2, ka .1);
+        head = kh .0;
+        result = kr .0;
+        room = omega (arith, all .room, length-append hs rs, kh .1, kr .1);
       }
 
-  say-steps : (a : ℕ) → RightRow s body a words pool tag x → AllAccepted (bySteps a words pool tag x) s body
-  unfolding bytes
-  say-steps a k =
-      let u = asyncing t₀ a b₀ in
+  say-steps : RightRow s body words pool tag x → AllAccepted (bySteps words pool tag x) s body
+  say-steps k =
+      let u = heading t₀ words pool b₀ in
       let k₀ = ready-opens s body (k .ready) in
       let g = accepted-grows (open-turns s body) k₀ in
       let i = open-inside s body k₀ in
-      let k₁ : Accepted (asyncing t₀ a b₀) =
-      async-accepts t₀ b₀ (inside-sounds i (ap opened (g .stands))) (s .used) (g .stands) a (k .async) (omega (arith, k .room, g .used, i .size)) in
-      let async = async-turns t₀ b₀ (g .stands) a in
-      let n : 1 ≡ length (written asyncShape [] (a ∷ []) 0) = size-same (sym (right-async a (k .async)) ∙ accepted-size async k₁) in
-      let h = accepted-grows async k₁ in
+      let short′ : length words ≤ 16384 = omega (arith, short) in
+      let k₁ : Accepted (heading t₀ words pool b₀) =
+      head-accepts t₀ b₀ (inside-sounds i (ap opened (g .stands))) (s .used) (g .stands) words pool short′ (k .head)
+      (omega (arith, k .room, g .used, i .size)) in
+      let turns = head-turns t₀ b₀ (g .stands) words pool in
+      let n : headSize words pool ≡ length (written headShape pool words 0) =
+      size-same (sym (right-head words pool short′ (k .head)) ∙ accepted-size turns k₁) in
+      let h = accepted-grows turns k₁ in
       let j = grows-inside i h refl in (
         k₀,
         (
           k₁,
-          rest-accepted (u .gave .section) (u .body) field.Nothing none (ap (λ p. paramsIn p (u .gave .section) words pool (u .body)) (h .stands)) j
-              (ap opened (h .stands)) (k .params) (k .result) (omega (arith, k .room, g .used, h .used, n, j .size)),
+          (
+            result-accepts (u .gave .section) (u .body) (inside-sounds j (ap opened (h .stands))) (s .used) (h .stands) tag x (k .result)
+                (omega (arith, k .room, g .used, h .used, n, j .size)),
+            tt,
+          ),
         ),
       )
 
-  -- and without
-  without-async-say : AllAccepted (byStepsWithoutAsync words pool tag x) s body → RightRow s body 0 words pool tag x
-  unfolding bytes
-  without-async-say k =
-      let g = accepted-grows (open-turns s body) (k .0) in
-      let rest =
-      rest-says t₀ b₀ (field.Fixed 0x40) (fixed 0x40) (ap (λ p. paramsIn p t₀ words pool b₀) (g .stands)) g (k .1) in
-      record {
-        ready = open-ready s body (k .0);
-        async = refl;
-        params = rest .0;
-        result = rest .1;
-        room = omega (arith, rest .2);
-      }
-
-  say-without-async : RightRow s body 0 words pool tag x → AllAccepted (byStepsWithoutAsync words pool tag x) s body
-  unfolding bytes
-  say-without-async k =
-      let k₀ = ready-opens s body (k .ready) in
-      let g = accepted-grows (open-turns s body) k₀ in
-      let i = open-inside s body k₀ in (
-        k₀,
-        rest-accepted t₀ b₀ (field.Fixed 0x40) (fixed 0x40) (ap (λ p. paramsIn p t₀ words pool b₀) (g .stands)) i (ap opened (g .stands))
-            (k .params) (k .result) (omega (arith, k .room, g .used, i .size)),
-      )
-
-  pub steps-accepted : (a : ℕ) → AllAccepted (bySteps a words pool tag x) s body ↔ AllAccepted (byRow a words pool tag x) s body
-  steps-accepted a =
-      ((λ k. (says-row s body a words pool tag x short (steps-say a k), tt)), (λ k. say-steps a (row-says s body a words pool tag x (k .0))))
-
-  pub steps-without-async-accepted : AllAccepted (byStepsWithoutAsync words pool tag x) s body ↔ AllAccepted (byRow 0 words pool tag x) s body
-  steps-without-async-accepted =
-      ((λ k. (says-row s body 0 words pool tag x short (without-async-say k), tt)), (λ k. say-without-async (row-says s body 0 words pool tag x (k .0))))
+  pub steps-accepted : AllAccepted (bySteps words pool tag x) s body ↔ AllAccepted (byRow words pool tag x) s body
+  steps-accepted =
+      ((λ k. (says-row s body words pool tag x short (steps-say k), tt)), (λ k. say-steps (row-says s body words pool tag x (k .0))))

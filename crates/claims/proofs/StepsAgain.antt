@@ -10,21 +10,20 @@ use lib.ListN.{length}
 use lib.Seq.{sets}
 use Rattle.fields.specs.declared.Answer.{Answer}
 use Rattle.fields.specs.declared.Answer.the-variants.{Size, Refused}
-use Rattle.fields.specs.declared.Field.the-variants as field
 use Rattle.fields.specs.declared.Refusal.{Refusal}
 use Rattle.fields.specs.declared.Refusal.the-variants as refusal
 use Rattle.fields.specs.declared.Shape.{Shape}
 use Rattle.fields.specs.Answers.{Left, left}
 use Rattle.writing.specs.Write.{written, measured, stored, writeShape}
 use Rattle.fields.specs.Answers as answers
+use Rattle.types.specs.Write.{headShape, resultShape}
 use Rattle.sections.specs.declared.Phase.{Phase}
-use Rattle.sections.specs.declared.Phase.the-variants.{Closed, Opened, Asynced, Parametered}
+use Rattle.sections.specs.declared.Phase.the-variants.{Closed, Opened, Headed}
 use Rattle.sections.specs.declared.Section.{Section}
-use Rattle.sections.specs.Runs.{Step, Row, Open, Async, Params, Result, Abandon, turn}
+use Rattle.sections.specs.Runs.{Step, Row, Open, Head, Result, Abandon, turn}
 use Rattle.sections.specs.Section.{familyBytes, measuredFamily, opened, holds, sounds, writeFamily}
-use Rattle.sections.specs.Steps.{Turn, turned, refused, refuse, taken, wrote, asyncIn, paramsIn, resultIn, abandonIn, rowing, opening, asyncing, paraming, resulting, abandoning}
+use Rattle.sections.specs.Steps.{Turn, turned, refused, refuse, taken, wrote, headIn, resultIn, abandonIn, rowing, opening, heading, resulting, abandoning}
 use Rattle.sections.proofs.FamilyLaws.{family-stored}
-use Rattle.sections.proofs.TurnLaws.{asyncShape, paramsShape, resultShape}
 use Rattle.claims.proofs.Families.{on-family}
 use Rattle.claims.proofs.NumberLaws.{Tells, any-shape, measured-why, measured-row-why}
 use Rattle.numbers.proofs.Impossible.{impossible}
@@ -123,36 +122,27 @@ module _ (s : Section) (body : List ℕ) where
 
   -- ---- each step
 
-  async-again : (a : ℕ) (p : Phase) → Again s body (asyncIn p s a)
-  async-again a Closed = refuse-again refusal.Order tt
-  async-again a (Opened start) = shape-again asyncShape (a ∷ []) [] (s .count) (Asynced start)
-  async-again a (Asynced start) = refuse-again refusal.Order tt
-  async-again a (Parametered start) = refuse-again refusal.Order tt
-
-  params-again : (words pool : List ℕ) (p : Phase) → Again s body (paramsIn p s words pool)
-  params-again words pool Closed = refuse-again refusal.Order tt
-  params-again words pool (Opened start) = shape-again (paramsShape (field.Fixed 0x40)) words pool (s .count) (Parametered start)
-  params-again words pool (Asynced start) = shape-again (paramsShape field.Nothing) words pool (s .count) (Parametered start)
-  params-again words pool (Parametered start) = refuse-again refusal.Order tt
+  head-again : (words pool : List ℕ) (p : Phase) → Again s body (headIn p s words pool)
+  head-again words pool Closed = refuse-again refusal.Order tt
+  head-again words pool (Opened start) = shape-again headShape words pool (s .count) (Headed start)
+  head-again words pool (Headed start) = refuse-again refusal.Order tt
 
   result-again : (tag x : ℕ) (p : Phase) → Again s body (resultIn p s tag x)
   result-again tag x Closed = refuse-again refusal.Order tt
   result-again tag x (Opened start) = refuse-again refusal.Order tt
-  result-again tag x (Asynced start) = refuse-again refusal.Order tt
-  result-again tag x (Parametered start) = shape-again resultShape (tag ∷ x ∷ []) [] (s .count) Closed
+  result-again tag x (Headed start) = shape-again resultShape (tag ∷ x ∷ []) [] (s .count) Closed
 
   abandon-again : (p : Phase) → Again s body (abandonIn p s)
   abandon-again Closed = refuse-again refusal.Order tt
   abandon-again (Opened start) = record { tries = λ n e. impossible cc }
-  abandon-again (Asynced start) = record { tries = λ n e. impossible cc }
-  abandon-again (Parametered start) = record { tries = λ n e. impossible cc }
+  abandon-again (Headed start) = record { tries = λ n e. impossible cc }
 
   types-again : (b : Bool) → Again s body (λ x. cond b (turned (taken s (Size 0) (s .count + 1) (Opened (s .used))) x) (refuse s refusal.Kind x))
   types-again true = record { tries = λ n e. impossible cc }
   types-again false = refuse-again refusal.Kind tt
 
   turn-again : (k : Step) → Again s body (turn k s)
-  unfolding rowing opening asyncing paraming resulting abandoning
+  unfolding rowing opening heading resulting abandoning
   turn-again (Row row pool) =
       sound-again
       (unless-again (ltb 16384 (length row)) refusal.Limit tt
@@ -165,11 +155,10 @@ module _ (s : Section) (body : List ℕ) where
       sound-again
       (unless-again (opened (s .phase)) refusal.Order tt
       (unless-again (eqb (s .count) 4294967295) refusal.Count tt (types-again (eqb (s .family) 7))))
-  turn-again (Async a) = sound-again (async-again a (s .phase))
-  turn-again (Params words pool) =
+  turn-again (Head words pool) =
       sound-again
       (unless-again (ltb 16384 (length words)) refusal.Limit tt
-      (unless-again (ltb 65536 (length pool)) refusal.Limit tt (params-again words pool (s .phase))))
+      (unless-again (ltb 65536 (length pool)) refusal.Limit tt (head-again words pool (s .phase))))
   turn-again (Result tag x) = sound-again (result-again tag x (s .phase))
   turn-again Abandon = sound-again (abandon-again (s .phase))
 

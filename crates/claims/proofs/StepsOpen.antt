@@ -12,16 +12,16 @@ use lib.Seq.{length-sets}
 use Rattle.numbers.proofs.BytesLaws.{sets-outside}
 use Rattle.fields.specs.declared.Answer.{Answer}
 use Rattle.fields.specs.declared.Answer.the-variants.{Size}
-use Rattle.fields.specs.declared.Field.the-variants as field
 use Rattle.fields.specs.declared.Refusal.{Refusal}
 use Rattle.fields.specs.declared.Refusal.the-variants as refusal
+use Rattle.types.specs.Write.{headShape, resultShape}
 use Rattle.sections.specs.declared.Phase.{Phase}
-use Rattle.sections.specs.declared.Phase.the-variants.{Closed, Opened, Asynced, Parametered}
+use Rattle.sections.specs.declared.Phase.the-variants.{Closed, Opened, Headed}
 use Rattle.sections.specs.declared.Section.{Section}
-use Rattle.sections.specs.Runs.{Step, Row, Open, Async, Params, Result, Abandon, turn, runs, Accepted}
+use Rattle.sections.specs.Runs.{Step, Row, Open, Head, Result, Abandon, turn, runs, Accepted}
 use Rattle.sections.specs.Section.{opened, holdsAt, holds, sounds}
-use Rattle.sections.specs.Steps.{Turn, turned, gives, refuse, taken, withdrawn, asyncIn, paramsIn, resultIn, abandonIn, opening, asyncing, paraming, resulting, abandoning}
-use Rattle.sections.proofs.TurnLaws.{Turns, refuses, stores, Grows, accepted-grows, either, asyncShape, paramsShape, resultShape, shape-turns, row-turns, open-turns}
+use Rattle.sections.specs.Steps.{Turn, turned, gives, refuse, taken, withdrawn, headIn, resultIn, abandonIn, opening, heading, resulting, abandoning}
+use Rattle.sections.proofs.TurnLaws.{Turns, refuses, stores, Grows, accepted-grows, either, shape-turns, row-turns, open-turns}
 use Rattle.claims.specs.Steps.{StaysOpen, Restored}
 use Rattle.numbers.proofs.Impossible.{impossible}
 
@@ -38,8 +38,7 @@ pub record Ready (s : Section) (body : List ℕ) : Type 0 where
 pub is-closed : (p : Phase) → opened p ≡ false → p ≡ Closed
 is-closed Closed e = refl
 is-closed (Opened start) e = impossible cc
-is-closed (Asynced start) e = impossible cc
-is-closed (Parametered start) e = impossible cc
+is-closed (Headed start) e = impossible cc
 
 module _ (s : Section) (body : List ℕ) where
   abbrev openedBy : Bool → Bool → Bool → Bool → Turn
@@ -77,8 +76,7 @@ module _ (s : Section) (body : List ℕ) where
 abbrev pub startOf : Phase → ℕ
 startOf Closed = 0
 startOf (Opened start) = start
-startOf (Asynced start) = start
-startOf (Parametered start) = start
+startOf (Headed start) = start
 
 -- t over `new` is what s over `body` has become since its entry was opened
 pub record Inside (s : Section) (body : List ℕ) (t : Section) (new : List ℕ) : Type 0 where
@@ -108,8 +106,7 @@ module _ {s : Section} {body : List ℕ} {t : Section} {new : List ℕ} (k : Ins
       go : (p : Phase) → opened p ≡ true → holdsAt t (startOf p) ≡ true → holds p t ≡ true
       go Closed o h = impossible cc
       go (Opened start) o h = h
-      go (Asynced start) o h = h
-      go (Parametered start) o h = h
+      go (Headed start) o h = h
 
   -- bytes behind the used part leave it so
   pub grows-inside : {bs end : List ℕ} {p : Phase} {u : Section} → Grows t new bs (t .count) p u end → startOf p ≡ s .used
@@ -162,47 +159,35 @@ module _ {s : Section} {body : List ℕ} {t : Section} {new : List ℕ} (k : Ins
   turns-close (refuses w n) = λ o. k
   turns-close (stores r h) = λ o. impossible cc
 
-  async-stays : (a : ℕ) (p : Phase) → startOf p ≡ s .used → Stays s body (asyncIn p t a new)
-  async-stays a Closed e = λ o. k
-  async-stays a (Opened start) e = turns-stay (λ o. e) (shape-turns t new (t .count) (Asynced start) asyncShape (a ∷ []) [])
-  async-stays a (Asynced start) e = λ o. k
-  async-stays a (Parametered start) e = λ o. k
-
-  params-stay : (words pool : List ℕ) (p : Phase) → startOf p ≡ s .used → Stays s body (paramsIn p t words pool new)
-  params-stay words pool Closed e = λ o. k
-  params-stay words pool (Opened start) e =
-      turns-stay (λ o. e) (shape-turns t new (t .count) (Parametered start) (paramsShape (field.Fixed 0x40)) words pool)
-  params-stay words pool (Asynced start) e =
-      turns-stay (λ o. e) (shape-turns t new (t .count) (Parametered start) (paramsShape field.Nothing) words pool)
-  params-stay words pool (Parametered start) e = λ o. k
+  head-stays : (words pool : List ℕ) (p : Phase) → startOf p ≡ s .used → Stays s body (headIn p t words pool new)
+  head-stays words pool Closed e = λ o. k
+  head-stays words pool (Opened start) e = turns-stay (λ o. e) (shape-turns t new (t .count) (Headed start) headShape words pool)
+  head-stays words pool (Headed start) e = λ o. k
 
   result-stays : (tag x : ℕ) (p : Phase) → Stays s body (resultIn p t tag x new)
   result-stays tag x Closed = λ o. k
   result-stays tag x (Opened start) = λ o. k
-  result-stays tag x (Asynced start) = λ o. k
-  result-stays tag x (Parametered start) = turns-close (shape-turns t new (t .count) Closed resultShape (tag ∷ x ∷ []) [])
+  result-stays tag x (Headed start) = turns-close (shape-turns t new (t .count) Closed resultShape (tag ∷ x ∷ []) [])
 
   abandon-stays : (p : Phase) → Stays s body (abandonIn p t new)
   abandon-stays Closed = λ o. k
   abandon-stays (Opened start) = λ o. impossible cc
-  abandon-stays (Asynced start) = λ o. impossible cc
-  abandon-stays (Parametered start) = λ o. impossible cc
+  abandon-stays (Headed start) = λ o. impossible cc
 
   refused-stays : (b : Bool) (w : Refusal) (x : Turn) → b ≡ true → Stays s body (cond b (refuse t w new) x)
   refused-stays true w x e = λ o. k
   refused-stays false w x e = impossible cc
 
-  -- each of the six, where the entry was open before it
+  -- each of the five, where the entry was open before it
   turn-stays : (x : Step) → opened (t .phase) ≡ true → Stays s body (turn x t new)
-  unfolding opening asyncing paraming resulting abandoning
+  unfolding opening heading resulting abandoning
   turn-stays (Row row pool) h = turns-close (row-turns t new row pool)
   turn-stays Open h =
       either (Stays s body) (sounds t (length new)) _ _ (refused-stays (opened (t .phase)) refusal.Order _ h) (λ o. k)
-  turn-stays (Async a) h = either (Stays s body) (sounds t (length new)) _ _ (async-stays a (t .phase) (k .start)) (λ o. k)
-  turn-stays (Params words pool) h =
+  turn-stays (Head words pool) h =
       either (Stays s body) (sounds t (length new)) _ _
       (either (Stays s body) (ltb 16384 (length words)) _ _ (λ o. k)
-      (either (Stays s body) (ltb 65536 (length pool)) _ _ (λ o. k) (params-stay words pool (t .phase) (k .start))))
+      (either (Stays s body) (ltb 65536 (length pool)) _ _ (λ o. k) (head-stays words pool (t .phase) (k .start))))
       (λ o. k)
   turn-stays (Result tag x) h = either (Stays s body) (sounds t (length new)) _ _ (result-stays tag x (t .phase)) (λ o. k)
   turn-stays Abandon h = either (Stays s body) (sounds t (length new)) _ _ (abandon-stays (t .phase)) (λ o. k)
@@ -235,8 +220,7 @@ abandon-back s body t new c f k o = simp (inside-sounds k o) (go (t .phase) (k .
     go : (p : Phase) → startOf p ≡ s .used → opened p ≡ true → abandonIn p t new ≡ turned (gives s (Size 0)) new
     go Closed e o = impossible cc
     go (Opened start) e o = back start e
-    go (Asynced start) e o = back start e
-    go (Parametered start) e o = back start e
+    go (Headed start) e o = back start e
 
 pub abandoned : (s : Section) (body : List ℕ) (steps : List Step) → Accepted (turn Open s body)
     → StaysOpen steps (turn Open s body .gave .section) (turn Open s body .body) → Restored s body steps

@@ -3,7 +3,6 @@
 use Prim.Native.Nat.{ℕ, _+_, _-_, _≤_, _<_}
 use mathlib.Core.Path.{_≡_}
 use mathlib.Core.Logic.{_⊎_}
-use mathlib.Core.Bool.{Bool}
 use mathlib.Core.List.{List, [], _∷_, _++_}
 use lib.ListN.{length, getD}
 use Rattle.numbers.specs.Bytes as bytes
@@ -19,16 +18,16 @@ use Rattle.fields.specs.Answers.{LeftRow, numberOfRefusal, numberOf, valueOf, L
 use Rattle.reading.specs.Read.{readItem}
 use Rattle.writing.specs.Write.{writeShape}
 use Rattle.items.specs.ReadType.{readType}
-use Rattle.types.specs.Write.{writeType, asyncShape, paramsShape, resultShape}
+use Rattle.types.specs.Write.{writeType, headShape, resultShape}
 use Rattle.items.specs.ReadImport.{readImport}
 use Rattle.imports.specs.Write.{writeImport}
 use Rattle.canonicals.specs.Write.{writeCanonical}
 use Rattle.instances.specs.Write.{writeCoreInstance, writeInstance}
 use Rattle.sections.specs.declared.Phase.{Phase}
-use Rattle.sections.specs.declared.Phase.the-variants.{Closed, Opened, Asynced, Parametered}
+use Rattle.sections.specs.declared.Phase.the-variants.{Closed, Opened, Headed}
 use Rattle.sections.specs.declared.Section.{Section}
 use Rattle.sections.specs.Finish.{finishing}
-use Rattle.sections.specs.Runs.{Step, Row, Open, Async, Params, Result, Abandon, turn}
+use Rattle.sections.specs.Runs.{Step, Row, Open, Head, Result, Abandon, turn}
 use Rattle.sections.specs.Section.{writeFamily}
 use Rattle.sections.specs.Steps.{Turn, turned, gives}
 use Rattle.sheets.specs.Sheet as sheet
@@ -79,8 +78,7 @@ grown s n count phase = record { family = s .family; used = s .used + n; count =
 abbrev pub told : Step → Section → ℕ → Section
 told (Row row pool) s n = grown s n (s .count + 1) Closed
 told Open s n = grown s n (s .count + 1) (Opened (s .used))
-told (Async a) s n = grown s n (s .count) (Asynced (startNumber (s .phase)))
-told (Params words pool) s n = grown s n (s .count) (Parametered (startNumber (s .phase)))
+told (Head words pool) s n = grown s n (s .count) (Headed (startNumber (s .phase)))
 told (Result tag x) s n = grown s n (s .count) Closed
 told Abandon s n = record { family = s .family; used = startNumber (s .phase); count = s .count - 1; phase = Closed }
 
@@ -112,8 +110,7 @@ pub record ChangesNothingElse : Type 0 where
   pub put-extern : (pool ws : List ℕ) (at : ℕ) (out : List ℕ) → Stores at out (store (externPart pool ws) at out)
   -- types, imports, canonicals, instances
   pub write-type : (row pool out : List ℕ) (at : ℕ) → Writes at out (writeType row pool out at)
-  pub write-async : (a : ℕ) (out : List ℕ) (at : ℕ) → Writes at out (writeShape asyncShape (a ∷ []) 0 [] out at)
-  pub write-params : (first : Bool) (words pool out : List ℕ) (at : ℕ) → Writes at out (writeShape (paramsShape first) words 0 pool out at)
+  pub write-head : (words pool out : List ℕ) (at : ℕ) → Writes at out (writeShape headShape words 0 pool out at)
   pub write-result : (tag x : ℕ) (out : List ℕ) (at : ℕ) → Writes at out (writeShape resultShape (tag ∷ x ∷ []) 0 [] out at)
   pub write-import : (row pool out : List ℕ) (at : ℕ) → Writes at out (writeImport row pool out at)
   pub write-canonical : (row pool out : List ℕ) (at : ℕ) → Writes at out (writeCanonical row pool out at)
@@ -121,7 +118,7 @@ pub record ChangesNothingElse : Type 0 where
   pub write-instance : (row pool out : List ℕ) (at : ℕ) → Writes at out (writeInstance row pool out at)
   pub read-type : (g : ℕ) (input row : List ℕ) → Reads row (readType g input row)
   pub read-import : (g : ℕ) (input row : List ℕ) → Reads row (readImport g input row)
-  -- sections: row, open, make_async, params, result, abandon, and finish, which leaves the state to its owner
+  -- sections: row, open, head, result, abandon, and finish, which leaves the state to its owner
   pub write-by : (family : ℕ) (row pool body : List ℕ) (at : ℕ) → Writes at body (writeFamily family row pool body at)
   pub step-state : (k : Step) (s : Section) (body : List ℕ) → Turns k s (turn k s body)
   pub step-body : (k : Step) (s : Section) (body : List ℕ)
@@ -137,7 +134,7 @@ pub record ChangesNothingElse : Type 0 where
       → Kept (numberOf (sheeted input body out .answer)) 0 (length (rowBytes input)) body (sheeted input body out .body)
   pub sheet-out : (input body out : List ℕ)
       → Kept (numberOf (sheeted input body out .answer)) 0 (valueOf (sheeted input body out .answer)) out (sheeted input body out .out)
-  -- cabi: tb_row, tb_open, tb_async, tb_params, tb_result, tb_abandon; tb_finish, tb_sheet, tb_read_type, tb_read_import
+  -- cabi: tb_row, tb_open, tb_head, tb_result, tb_abandon; tb_finish, tb_sheet, tb_read_type, tb_read_import
   pub c-step-state : (k : Step) (state body : List ℕ) → length state ≡ 5 → Counts k state (step (given state) (λ s. turn k s body) state body)
   pub c-step-body : (k : Step) (state body : List ℕ)
       → Kept (step (given state) (λ s. turn k s body) state body .reply .number) (getD state 1 0)

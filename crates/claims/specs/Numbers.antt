@@ -2,7 +2,6 @@
 use Prim.Native.Nat.{ℕ}
 use mathlib.Core.Path.{_≡_}
 use mathlib.Core.Logic.{_⊎_}
-use mathlib.Core.Bool.{Bool}
 use mathlib.Core.List.{List, [], _∷_, _++_}
 use Rattle.numbers.specs.Bytes.{store, partOf}
 use Rattle.numbers.specs.Leb.{unsigned, signed, takeUnsigned, takeSigned}
@@ -15,7 +14,7 @@ use Rattle.writing.specs.Row.{measuredRow}
 use Rattle.fields.specs.Answers.{numberOf}
 use Rattle.writing.specs.Write.{measured, writeShape}
 use Rattle.items.specs.ReadType.{readType}
-use Rattle.types.specs.Write.{measuredType, writeType, asyncShape, paramsShape, resultShape}
+use Rattle.types.specs.Write.{measuredType, writeType, headShape, resultShape}
 use Rattle.items.specs.ReadImport.{readImport}
 use Rattle.imports.specs.Write.{measuredImport, writeImport}
 use Rattle.canonicals.specs.Write.{measuredCanonical, writeCanonical}
@@ -23,7 +22,7 @@ use Rattle.instances.specs.Write.{measuredCoreInstance, writeCoreInstance, meas
 use Rattle.sections.specs.declared.Section.{Section}
 use Rattle.sections.specs.Finish.{finishing}
 use Rattle.sections.specs.Section.{writeFamily}
-use Rattle.sections.specs.Steps.{rowing, opening, asyncing, paraming, resulting, abandoning}
+use Rattle.sections.specs.Steps.{rowing, opening, heading, resulting, abandoning}
 use Rattle.sheets.specs.Sheet.{sheeted}
 use Rattle.cabi.specs.Read.{ofRead}
 use Rattle.cabi.specs.Sheet.{ofSheet}
@@ -64,8 +63,7 @@ pub record RefusesBy : Type 0 where
   pub measure-type : Exactly (List ℕ × List ℕ) (λ x. numberOf (measuredType (x .0) (x .1))) (0 ∷ 1 ∷ 2 ∷ 3 ∷ 4 ∷ 5 ∷ 6 ∷ [])
   pub write-type : Exactly (List ℕ × List ℕ × List ℕ × ℕ) (λ x. numberOf (writeType (x .0) (x .1) (x .2) (x .3) .answer)) (0 ∷ 1 ∷ 2 ∷ 3 ∷ 4 ∷ 5 ∷ 6 ∷ 8 ∷ [])
   pub read-type : Exactly (ℕ × List ℕ × List ℕ) (λ x. numberOfRead (readType (x .0) (x .1) (x .2) .answer)) (0 ∷ 1 ∷ 6 ∷ 8 ∷ 11 ∷ 12 ∷ 13 ∷ 14 ∷ [])
-  pub write-async : Exactly (ℕ × List ℕ × ℕ) (λ x. numberOf (writeShape asyncShape (x .0 ∷ []) 0 [] (x .1) (x .2) .answer)) (0 ∷ 4 ∷ 8 ∷ [])
-  pub write-params : Exactly (Bool × List ℕ × List ℕ × List ℕ × ℕ) (λ x. numberOf (writeShape (paramsShape (x .0)) (x .1) 0 (x .2) (x .3) (x .4) .answer)) (0 ∷ 1 ∷ 3 ∷ 4 ∷ 5 ∷ 6 ∷ 8 ∷ [])
+  pub write-head : Exactly (List ℕ × List ℕ × List ℕ × ℕ) (λ x. numberOf (writeShape headShape (x .0) 0 (x .1) (x .2) (x .3) .answer)) (0 ∷ 1 ∷ 3 ∷ 4 ∷ 5 ∷ 6 ∷ 8 ∷ [])
   pub write-result : Exactly (ℕ × ℕ × List ℕ × ℕ) (λ x. numberOf (writeShape resultShape (x .0 ∷ x .1 ∷ []) 0 [] (x .2) (x .3) .answer)) (0 ∷ 4 ∷ 8 ∷ [])
   pub measure-import : Exactly (List ℕ × List ℕ) (λ x. numberOf (measuredImport (x .0) (x .1))) (0 ∷ 1 ∷ 2 ∷ 3 ∷ 4 ∷ 5 ∷ 6 ∷ [])
   pub write-import : Exactly (List ℕ × List ℕ × List ℕ × ℕ) (λ x. numberOf (writeImport (x .0) (x .1) (x .2) (x .3) .answer)) (0 ∷ 1 ∷ 2 ∷ 3 ∷ 4 ∷ 5 ∷ 6 ∷ 8 ∷ [])
@@ -82,8 +80,7 @@ pub record RefusesBy : Type 0 where
   pub write-by : Exactly (ℕ × List ℕ × List ℕ × List ℕ × ℕ) (λ x. numberOf (writeFamily (x .0) (x .1) (x .2) (x .3) (x .4) .answer)) (0 ∷ 1 ∷ 2 ∷ 3 ∷ 4 ∷ 5 ∷ 6 ∷ 8 ∷ [])
   pub row : Exactly (Section × List ℕ × List ℕ × List ℕ) (λ x. numberOf (rowing (x .0) (x .1) (x .2) (x .3) .gave .answer)) (0 ∷ 1 ∷ 2 ∷ 3 ∷ 4 ∷ 5 ∷ 6 ∷ 8 ∷ 9 ∷ 10 ∷ [])
   pub open-entry : Exactly (Section × List ℕ) (λ x. numberOf (opening (x .0) (x .1) .gave .answer)) (0 ∷ 1 ∷ 2 ∷ 9 ∷ 10 ∷ [])
-  pub make-async : Exactly (Section × ℕ × List ℕ) (λ x. numberOf (asyncing (x .0) (x .1) (x .2) .gave .answer)) (0 ∷ 1 ∷ 4 ∷ 8 ∷ 9 ∷ [])
-  pub params : Exactly (Section × List ℕ × List ℕ × List ℕ) (λ x. numberOf (paraming (x .0) (x .1) (x .2) (x .3) .gave .answer)) (0 ∷ 1 ∷ 3 ∷ 4 ∷ 5 ∷ 6 ∷ 8 ∷ 9 ∷ [])
+  pub head : Exactly (Section × List ℕ × List ℕ × List ℕ) (λ x. numberOf (heading (x .0) (x .1) (x .2) (x .3) .gave .answer)) (0 ∷ 1 ∷ 3 ∷ 4 ∷ 5 ∷ 6 ∷ 8 ∷ 9 ∷ [])
   pub result : Exactly (Section × ℕ × ℕ × List ℕ) (λ x. numberOf (resulting (x .0) (x .1) (x .2) (x .3) .gave .answer)) (0 ∷ 1 ∷ 4 ∷ 8 ∷ 9 ∷ [])
   pub abandon : Exactly (Section × List ℕ) (λ x. numberOf (abandoning (x .0) (x .1) .gave .answer)) (0 ∷ 1 ∷ 9 ∷ [])
   pub finish : Exactly (Section × List ℕ × List ℕ) (λ x. numberOf (finishing (x .0) (x .1) (x .2) .answer)) (0 ∷ 1 ∷ 7 ∷ 8 ∷ 9 ∷ [])
@@ -92,8 +89,7 @@ pub record RefusesBy : Type 0 where
   -- cabi: the state is five numbers
   pub c-row : Exactly (List ℕ × List ℕ × List ℕ × List ℕ) (λ x. step (given (x .0)) (λ s. rowing s (x .1) (x .2) (x .3)) (x .0) (x .3) .reply .number) (0 ∷ 1 ∷ 2 ∷ 3 ∷ 4 ∷ 5 ∷ 6 ∷ 8 ∷ 9 ∷ 10 ∷ [])
   pub c-open : Exactly (List ℕ × List ℕ) (λ x. step (given (x .0)) (λ s. opening s (x .1)) (x .0) (x .1) .reply .number) (0 ∷ 1 ∷ 2 ∷ 9 ∷ 10 ∷ [])
-  pub c-async : Exactly (List ℕ × ℕ × List ℕ) (λ x. step (given (x .0)) (λ s. asyncing s (x .1) (x .2)) (x .0) (x .2) .reply .number) (0 ∷ 1 ∷ 4 ∷ 8 ∷ 9 ∷ [])
-  pub c-params : Exactly (List ℕ × List ℕ × List ℕ × List ℕ) (λ x. step (given (x .0)) (λ s. paraming s (x .1) (x .2) (x .3)) (x .0) (x .3) .reply .number) (0 ∷ 1 ∷ 3 ∷ 4 ∷ 5 ∷ 6 ∷ 8 ∷ 9 ∷ [])
+  pub c-head : Exactly (List ℕ × List ℕ × List ℕ × List ℕ) (λ x. step (given (x .0)) (λ s. heading s (x .1) (x .2) (x .3)) (x .0) (x .3) .reply .number) (0 ∷ 1 ∷ 3 ∷ 4 ∷ 5 ∷ 6 ∷ 8 ∷ 9 ∷ [])
   pub c-result : Exactly (List ℕ × ℕ × ℕ × List ℕ) (λ x. step (given (x .0)) (λ s. resulting s (x .1) (x .2) (x .3)) (x .0) (x .3) .reply .number) (0 ∷ 1 ∷ 4 ∷ 8 ∷ 9 ∷ [])
   pub c-abandon : Exactly (List ℕ × List ℕ) (λ x. step (given (x .0)) (λ s. abandoning s (x .1)) (x .0) (x .1) .reply .number) (0 ∷ 1 ∷ 9 ∷ [])
   pub c-finish : Exactly (List ℕ × List ℕ × List ℕ) (λ x. finishes (given (x .0)) (x .1) (x .2) .reply .number) (0 ∷ 1 ∷ 7 ∷ 8 ∷ 9 ∷ [])

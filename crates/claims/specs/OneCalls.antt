@@ -47,8 +47,7 @@ use Rattle.types.proofs.shape_of as call-shape-of-type
 use Rattle.types.proofs.measure as call-measure-type
 use Rattle.types.proofs.write as call-write-type
 use Rattle.items.proofs.read_type as call-read-type
-use Rattle.types.proofs.steps.write_async as call-write-async
-use Rattle.types.proofs.steps.write_params as call-write-params
+use Rattle.types.proofs.steps.write_head as call-write-head
 use Rattle.types.proofs.steps.write_result as call-write-result
 use Rattle.imports.proofs.shape_of as call-shape-of-import
 use Rattle.imports.proofs.measure as call-measure-import
@@ -64,16 +63,14 @@ use Rattle.sections.proofs.write_by as call-write-by
 use Rattle.sections.proofs.Section.new as call-new
 use Rattle.sections.proofs.Section.row as call-row
 use Rattle.sections.proofs.Section.open as call-open-entry
-use Rattle.sections.proofs.Section.make_async as call-make-async
-use Rattle.sections.proofs.Section.params as call-params
+use Rattle.sections.proofs.Section.head as call-head
 use Rattle.sections.proofs.Section.result as call-result
 use Rattle.sections.proofs.Section.abandon as call-abandon
 use Rattle.sections.proofs.Section.finish as call-finish
 use Rattle.sheets.proofs.sheet as call-sheet
 use Rattle.lent.proofs.row as call-lent-row
 use Rattle.lent.proofs.open as call-lent-open
-use Rattle.lent.proofs.make_async as call-lent-async
-use Rattle.lent.proofs.params as call-lent-params
+use Rattle.lent.proofs.head as call-lent-head
 use Rattle.lent.proofs.result as call-lent-result
 use Rattle.lent.proofs.abandon as call-lent-abandon
 use Rattle.lent.proofs.finish as call-lent-finish
@@ -82,8 +79,7 @@ use Rattle.cabi.proofs.tb_read_type as call-tb-read-type
 use Rattle.cabi.proofs.tb_read_import as call-tb-read-import
 use Rattle.cabi.proofs.tb_row as call-tb-row
 use Rattle.cabi.proofs.tb_open as call-tb-open
-use Rattle.cabi.proofs.tb_async as call-tb-async
-use Rattle.cabi.proofs.tb_params as call-tb-params
+use Rattle.cabi.proofs.tb_head as call-tb-head
 use Rattle.cabi.proofs.tb_result as call-tb-result
 use Rattle.cabi.proofs.tb_abandon as call-tb-abandon
 use Rattle.cabi.proofs.tb_finish as call-tb-finish
@@ -158,8 +154,7 @@ pub record NoSecondOutcome : Type 2 where
   pub shape-of-type : OneOutcome call-shape-of-type.ended (λ M. call-shape-of-type.clauses)
   pub measure-type : OneOutcome call-measure-type.ended (λ M. call-measure-type.clauses)
   pub write-type : OneOutcome call-write-type.ended (λ M. call-write-type.clauses)
-  pub write-async : OneOutcome call-write-async.ended (λ M. call-write-async.clauses)
-  pub write-params : OneOutcome call-write-params.ended (λ M. call-write-params.clauses)
+  pub write-head : OneOutcome call-write-head.ended (λ M. call-write-head.clauses)
   pub write-result : OneOutcome call-write-result.ended (λ M. call-write-result.clauses)
   -- imports
   pub shape-of-import : OneOutcome call-shape-of-import.ended (λ M. call-shape-of-import.clauses)
@@ -181,8 +176,7 @@ pub record NoSecondOutcome : Type 2 where
   pub new : OneOutcome call-new.ended (λ M. call-new.clauses)
   pub row : OneOutcome call-row.ended (λ M. call-row.clauses)
   pub open-entry : OneOutcome call-open-entry.ended (λ M. call-open-entry.clauses)
-  pub make-async : OneOutcome call-make-async.ended (λ M. call-make-async.clauses)
-  pub params : OneOutcome call-params.ended (λ M. call-params.clauses)
+  pub head : OneOutcome call-head.ended (λ M. call-head.clauses)
   pub result : OneOutcome call-result.ended (λ M. call-result.clauses)
   pub abandon : OneOutcome call-abandon.ended (λ M. call-abandon.clauses)
   pub finish : OneOutcome call-finish.ended (λ M. call-finish.clauses)
@@ -191,8 +185,7 @@ pub record NoSecondOutcome : Type 2 where
   -- lent: the state at exit is part of the outcome
   pub lent-row : OneOutcome call-lent-row.ended (λ M. call-lent-row.clauses)
   pub lent-open : OneOutcome call-lent-open.ended (λ M. call-lent-open.clauses)
-  pub lent-async : OneOutcome call-lent-async.ended (λ M. call-lent-async.clauses)
-  pub lent-params : OneOutcome call-lent-params.ended (λ M. call-lent-params.clauses)
+  pub lent-head : OneOutcome call-lent-head.ended (λ M. call-lent-head.clauses)
   pub lent-result : OneOutcome call-lent-result.ended (λ M. call-lent-result.clauses)
   pub lent-abandon : OneOutcome call-lent-abandon.ended (λ M. call-lent-abandon.clauses)
   pub lent-finish : OneOutcome call-lent-finish.ended (λ M. call-lent-finish.clauses)
@@ -202,8 +195,7 @@ pub record NoSecondOutcome : Type 2 where
   pub tb-read-import : OneOutcome call-tb-read-import.ended (λ M. call-tb-read-import.clauses)
   pub tb-row : OneOutcome call-tb-row.ended (λ M. call-tb-row.clauses)
   pub tb-open : OneOutcome call-tb-open.ended (λ M. call-tb-open.clauses)
-  pub tb-async : OneOutcome call-tb-async.ended (λ M. call-tb-async.clauses)
-  pub tb-params : OneOutcome call-tb-params.ended (λ M. call-tb-params.clauses)
+  pub tb-head : OneOutcome call-tb-head.ended (λ M. call-tb-head.clauses)
   pub tb-result : OneOutcome call-tb-result.ended (λ M. call-tb-result.clauses)
   pub tb-abandon : OneOutcome call-tb-abandon.ended (λ M. call-tb-abandon.clauses)
   pub tb-finish : OneOutcome call-tb-finish.ended (λ M. call-tb-finish.clauses)

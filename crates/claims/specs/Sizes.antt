@@ -2,7 +2,6 @@
 -- that has it. So neither a row writer nor a step tests for it.
 use Prim.Native.Nat.{ℕ, zero, suc, _*_, _≤_}
 use mathlib.Core.Path.{_≡_}
-use mathlib.Core.Bool.{Bool}
 use mathlib.Core.List.{List, [], _∷_}
 use lib.ListN.{length, replicate}
 use Rattle.numbers.specs.Bytes.{Bytes}
@@ -10,7 +9,7 @@ use Rattle.fields.specs.declared.Answer.the-variants.{Size}
 use Rattle.fields.specs.Words.{Words}
 use Rattle.writing.specs.Largest.{largestRow}
 use Rattle.writing.specs.Write.{measured}
-use Rattle.types.specs.Write.{asyncShape, paramsShape, resultShape}
+use Rattle.types.specs.Write.{headShape, resultShape}
 use Rattle.sections.specs.Section.{measuredFamily, familyBytes}
 
 -- n names of m bytes, each from the pool's first byte on
@@ -30,8 +29,7 @@ pub record NoRowTooBig : Type 0 where
   pub rows : (family : ℕ) (row pool : List ℕ) (size : ℕ) → measuredFamily family row pool ≡ Size size
       → (size ≡ length (familyBytes family pool row)) × (size ≤ largestRow)
   -- the parts of a function that goes in steps
-  pub async : (a : ℕ) (size : ℕ) → measured asyncShape (a ∷ []) 0 [] ≡ Size size → size ≤ largestRow
-  pub params : (first : Bool) (words pool : List ℕ) (size : ℕ) → measured (paramsShape first) words 0 pool ≡ Size size → size ≤ largestRow
+  pub head : (words pool : List ℕ) (size : ℕ) → measured headShape words 0 pool ≡ Size size → size ≤ largestRow
   pub result : (tag x : ℕ) (size : ℕ) → measured resultShape (tag ∷ x ∷ []) 0 [] ≡ Size size → size ≤ largestRow
   -- 8,191 names of 65,536 bytes, each with three bytes of length, behind a lead and a count of two bytes; and how far that is below
   pub reckoned : largestRow ≡ 536829952

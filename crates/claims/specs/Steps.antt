@@ -9,23 +9,20 @@ use lib.ListN.{length, getD}
 use Rattle.fields.specs.declared.Answer.the-variants.{Size, Refused}
 use Rattle.fields.specs.declared.Refusal.the-variants as refusal
 use Rattle.sections.specs.declared.Section.{Section}
-use Rattle.sections.specs.Runs.{Step, Row, Open, Async, Params, Result, Abandon, turn, runs, Accepted, AllAccepted}
+use Rattle.sections.specs.Runs.{Step, Row, Open, Head, Result, Abandon, turn, runs, Accepted, AllAccepted}
 use Rattle.sections.specs.Section.{opened}
 use Rattle.sections.specs.Steps.{turned, refused, refuse}
 
--- the row of a function, whose parameters are `words`, a count and as many of (N,V)
-abbrev pub functionRow : ℕ → List ℕ → ℕ → ℕ → List ℕ
-functionRow a words tag x = 15 ∷ a ∷ (words ++ tag ∷ x ∷ [])
+-- the row of a function, whose head is `words`: a, a count and as many of (N,V)
+abbrev pub functionRow : List ℕ → ℕ → ℕ → List ℕ
+functionRow words tag x = 15 ∷ (words ++ tag ∷ x ∷ [])
 
-abbrev pub byRow : ℕ → List ℕ → List ℕ → ℕ → ℕ → List Step
-byRow a words pool tag x = Row (functionRow a words tag x) pool ∷ []
+abbrev pub byRow : List ℕ → List ℕ → ℕ → ℕ → List Step
+byRow words pool tag x = Row (functionRow words tag x) pool ∷ []
 
--- the same in steps; without the step async it is not async
-abbrev pub bySteps : ℕ → List ℕ → List ℕ → ℕ → ℕ → List Step
-bySteps a words pool tag x = Open ∷ Async a ∷ Params words pool ∷ Result tag x ∷ []
-
-abbrev pub byStepsWithoutAsync : List ℕ → List ℕ → ℕ → ℕ → List Step
-byStepsWithoutAsync words pool tag x = Open ∷ Params words pool ∷ Result tag x ∷ []
+-- the same in steps
+abbrev pub bySteps : List ℕ → List ℕ → ℕ → ℕ → List Step
+bySteps words pool tag x = Open ∷ Head words pool ∷ Result tag x ∷ []
 
 -- an entry is open before each of the steps and behind the last
 abbrev pub StaysOpen : List Step → Section → List ℕ → Type 0
@@ -41,20 +38,15 @@ pub record Restored (s : Section) (body : List ℕ) (steps : List Step) : Type 0
 
 pub record StepsAreRows : Type 0 where
   -- in order and with room, exactly when the row is, where both keep within the limit on words
-  pub steps-accepted : (s : Section) (a : ℕ) (words pool : List ℕ) (tag x : ℕ) (body : List ℕ) → length words ≤ 16380
-      → AllAccepted (bySteps a words pool tag x) s body ↔ AllAccepted (byRow a words pool tag x) s body
-  pub steps-without-async-accepted : (s : Section) (words pool : List ℕ) (tag x : ℕ) (body : List ℕ) → length words ≤ 16380
-      → AllAccepted (byStepsWithoutAsync words pool tag x) s body ↔ AllAccepted (byRow 0 words pool tag x) s body
+  pub steps-accepted : (s : Section) (words pool : List ℕ) (tag x : ℕ) (body : List ℕ) → length words ≤ 16381
+      → AllAccepted (bySteps words pool tag x) s body ↔ AllAccepted (byRow words pool tag x) s body
   -- past that limit, which is of 4,095 parameters, the row is LIMIT
-  pub row-too-long : (s : Section) (a : ℕ) (words pool : List ℕ) (tag x : ℕ) (body : List ℕ) → 16380 < length words
-      → turn (Row (functionRow a words tag x) pool) s body ≡ refuse s refusal.Limit body
+  pub row-too-long : (s : Section) (words pool : List ℕ) (tag x : ℕ) (body : List ℕ) → 16381 < length words
+      → turn (Row (functionRow words tag x) pool) s body ≡ refuse s refusal.Limit body
   -- then state and body are the same
-  pub steps-are-row : (s : Section) (a : ℕ) (words pool : List ℕ) (tag x : ℕ) (body : List ℕ)
-      → AllAccepted (bySteps a words pool tag x) s body → AllAccepted (byRow a words pool tag x) s body
-      → runs (bySteps a words pool tag x) s body ≡ runs (byRow a words pool tag x) s body
-  pub steps-without-async-are-row : (s : Section) (words pool : List ℕ) (tag x : ℕ) (body : List ℕ)
-      → AllAccepted (byStepsWithoutAsync words pool tag x) s body → AllAccepted (byRow 0 words pool tag x) s body
-      → runs (byStepsWithoutAsync words pool tag x) s body ≡ runs (byRow 0 words pool tag x) s body
+  pub steps-are-row : (s : Section) (words pool : List ℕ) (tag x : ℕ) (body : List ℕ)
+      → AllAccepted (bySteps words pool tag x) s body → AllAccepted (byRow words pool tag x) s body
+      → runs (bySteps words pool tag x) s body ≡ runs (byRow words pool tag x) s body
   -- open, any steps while the entry is open, abandon: state and used part as before
   pub abandoned : (s : Section) (body : List ℕ) (steps : List Step) → Accepted (turn Open s body)
       → StaysOpen steps (turn Open s body .gave .section) (turn Open s body .body) → Restored s body steps

@@ -4,7 +4,7 @@ use fields::Answer;
 use sections::Section;
 ghost use mathlib.Core.Path.{_≡_};
 ghost use Rattle.fields.specs.Answers.{left};
-ghost use Rattle.sections.specs.Steps.{turned, gives, rowing, opening, asyncing, paraming, resulting, abandoning};
+ghost use Rattle.sections.specs.Steps.{turned, gives, rowing, opening, heading, resulting, abandoning};
 ghost use Rattle.sections.specs.Finish.{finishing};
 
 // A row: its bytes, and one entry more.
@@ -26,21 +26,12 @@ pub fn open(section: &mut Section, body: &mut [u8]) -> Answer
     t.answer
 }
 
-// The function's first byte: 40, or 43 where a is 1.
-pub fn make_async(section: &mut Section, a: u32, body: &mut [u8]) -> Answer
-    ensures { λ r. ⌜ turned (gives (now (section .exit)) r) (now (body .exit)) ≡ asyncing (now (section .entry)) a (now (body .entry)) ⌝ }
-{
-    let t = Section::make_async(*section, a, body);
-    *section = t.section;
-    t.answer
-}
-
-// The function's parameters: n and n of (N,V). Without async given before, 40 comes first.
-pub fn params(section: &mut Section, words: &[u32], pool: &[u8], body: &mut [u8]) -> Answer
+// The function's head: a, n and n of (N,V), which make 40, or 43 where a is 1, the count and the parameters.
+pub fn head(section: &mut Section, words: &[u32], pool: &[u8], body: &mut [u8]) -> Answer
     ensures { λ r. ⌜ turned (gives (now (section .exit)) r) (now (body .exit))
-        ≡ paraming (now (section .entry)) (now (words .entry)) (now (pool .entry)) (now (body .entry)) ⌝ }
+        ≡ heading (now (section .entry)) (now (words .entry)) (now (pool .entry)) (now (body .entry)) ⌝ }
 {
-    let t = Section::params(*section, words, pool, body);
+    let t = Section::head(*section, words, pool, body);
     *section = t.section;
     t.answer
 }

@@ -9,14 +9,14 @@ use lib.ListN.{length}
 use lib.Seq.{length-sets}
 use Rattle.numbers.proofs.BytesLaws.{sets-outside, sets-back}
 use Rattle.fields.specs.declared.Answer.{Answer}
-use Rattle.fields.specs.declared.Field.the-variants as field
+use Rattle.types.specs.Write.{headShape, resultShape}
 use Rattle.sections.specs.declared.Phase.{Phase}
-use Rattle.sections.specs.declared.Phase.the-variants.{Closed, Opened, Asynced, Parametered}
+use Rattle.sections.specs.declared.Phase.the-variants.{Closed, Opened, Headed}
 use Rattle.sections.specs.declared.Section.{Section}
 use Rattle.sections.specs.Section.{familyBytes, fresh, sounds}
-use Rattle.sections.specs.Steps.{Turn, asyncIn, paramsIn, resultIn, abandonIn, asyncing, paraming, resulting, abandoning}
-use Rattle.sections.specs.Runs.{Step, Row, Open, Async, Params, Result, Abandon, turn, runs, AllAccepted, Entry, rows, Kept, allBytes, Begun}
-use Rattle.sections.proofs.TurnLaws.{Turns, refuses, stores, Grows, accepted-grows, grows-then, either, asyncShape, paramsShape, resultShape, shape-turns, row-turns, open-turns}
+use Rattle.sections.specs.Steps.{Turn, headIn, resultIn, abandonIn, heading, resulting, abandoning}
+use Rattle.sections.specs.Runs.{Step, Row, Open, Head, Result, Abandon, turn, runs, AllAccepted, Entry, rows, Kept, allBytes, Begun}
+use Rattle.sections.proofs.TurnLaws.{Turns, refuses, stores, Grows, accepted-grows, grows-then, either, shape-turns, row-turns, open-turns}
 
 -- ---- outside what is counted
 
@@ -25,40 +25,30 @@ turns-kept (refuses w n) = (refl, refl)
 turns-kept {s} {body} {r} {bs} (stores e h) = λ i o. sets-outside bs body (s .used) i o
 
 module _ (s : Section) (body : List ℕ) where
-  async-kept : (a : ℕ) (p : Phase) → Kept s body (asyncIn p s a body)
-  async-kept a Closed = (refl, refl)
-  async-kept a (Opened start) = turns-kept (shape-turns s body (s .count) (Asynced start) asyncShape (a ∷ []) [])
-  async-kept a (Asynced start) = (refl, refl)
-  async-kept a (Parametered start) = (refl, refl)
-
-  params-kept : (words pool : List ℕ) (p : Phase) → Kept s body (paramsIn p s words pool body)
-  params-kept words pool Closed = (refl, refl)
-  params-kept words pool (Opened start) = turns-kept (shape-turns s body (s .count) (Parametered start) (paramsShape (field.Fixed 0x40)) words pool)
-  params-kept words pool (Asynced start) = turns-kept (shape-turns s body (s .count) (Parametered start) (paramsShape field.Nothing) words pool)
-  params-kept words pool (Parametered start) = (refl, refl)
+  head-kept : (words pool : List ℕ) (p : Phase) → Kept s body (headIn p s words pool body)
+  head-kept words pool Closed = (refl, refl)
+  head-kept words pool (Opened start) = turns-kept (shape-turns s body (s .count) (Headed start) headShape words pool)
+  head-kept words pool (Headed start) = (refl, refl)
 
   result-kept : (tag x : ℕ) (p : Phase) → Kept s body (resultIn p s tag x body)
   result-kept tag x Closed = (refl, refl)
   result-kept tag x (Opened start) = (refl, refl)
-  result-kept tag x (Asynced start) = (refl, refl)
-  result-kept tag x (Parametered start) = turns-kept (shape-turns s body (s .count) Closed resultShape (tag ∷ x ∷ []) [])
+  result-kept tag x (Headed start) = turns-kept (shape-turns s body (s .count) Closed resultShape (tag ∷ x ∷ []) [])
 
   abandon-kept : (p : Phase) → Kept s body (abandonIn p s body)
   abandon-kept Closed = (refl, refl)
   abandon-kept (Opened start) = λ i o. refl
-  abandon-kept (Asynced start) = λ i o. refl
-  abandon-kept (Parametered start) = λ i o. refl
+  abandon-kept (Headed start) = λ i o. refl
 
--- of each of the six steps
+-- of each of the five steps
 pub outside : (x : Step) (s : Section) (body : List ℕ) → Kept s body (turn x s body)
-unfolding asyncing paraming resulting abandoning
+unfolding heading resulting abandoning
 outside (Row row pool) s body = turns-kept (row-turns s body row pool)
 outside Open s body = turns-kept (open-turns s body)
-outside (Async a) s body = either (Kept s body) (sounds s (length body)) _ _ (async-kept s body a (s .phase)) (refl, refl)
-outside (Params words pool) s body =
+outside (Head words pool) s body =
     either (Kept s body) (sounds s (length body)) _ _
     (either (Kept s body) (ltb 16384 (length words)) _ _ (refl, refl)
-    (either (Kept s body) (ltb 65536 (length pool)) _ _ (refl, refl) (params-kept s body words pool (s .phase))))
+    (either (Kept s body) (ltb 65536 (length pool)) _ _ (refl, refl) (head-kept s body words pool (s .phase))))
     (refl, refl)
 outside (Result tag x) s body = either (Kept s body) (sounds s (length body)) _ _ (result-kept s body tag x (s .phase)) (refl, refl)
 outside Abandon s body = either (Kept s body) (sounds s (length body)) _ _ (abandon-kept s body (s .phase)) (refl, refl)

@@ -16,7 +16,7 @@ use Rattle.fields.specs.Answers.{Left, left}
 use Rattle.writing.specs.Write.{stored, writeShape}
 use Rattle.fields.specs.Answers as answers
 use Rattle.sections.specs.declared.Phase.{Phase}
-use Rattle.sections.specs.declared.Phase.the-variants.{Closed, Opened, Asynced, Parametered}
+use Rattle.sections.specs.declared.Phase.the-variants.{Closed, Opened, Headed}
 use Rattle.sections.specs.declared.Section.{Section}
 use Rattle.sections.specs.declared.Turned.{Turned}
 use Rattle.sections.specs.Section.{Types, Canonicals, Imports, CoreInstances, Instances, None, known, knownFamily, opened, holdsAt, holds, sounds, writeFamily}
@@ -68,8 +68,7 @@ count-positive s n e o = go (s .phase) (phase-holds s n e) o
     go : (p : Phase) → holds p s ≡ true → opened p ≡ true → 0 < s .count
     go Closed h o = impossible cc
     go (Opened start) h o = held s start h .1
-    go (Asynced start) h o = held s start h .1
-    go (Parametered start) h o = held s start h .1
+    go (Headed start) h o = held s start h .1
 
 -- its family is a byte
 known-small : (family : ℕ) → knownFamily family ≡ true → family < 256
@@ -93,8 +92,7 @@ family-small s n e = go (s .phase) (phase-holds s n e)
     go : (p : Phase) → holds p s ≡ true → s .family < 256
     go Closed h = known-small (s .family) h
     go (Opened start) h = omega (arith, held s start h .0)
-    go (Asynced start) h = omega (arith, held s start h .0)
-    go (Parametered start) h = omega (arith, held s start h .0)
+    go (Headed start) h = omega (arith, held s start h .0)
 
 -- ---- what a writer leaves
 

@@ -11,21 +11,19 @@ use lib.Seq.{sets, length-sets}
 use Rattle.numbers.proofs.BytesLaws.{sets-append}
 use Rattle.fields.specs.declared.Answer.{Answer}
 use Rattle.fields.specs.declared.Answer.the-variants.{Size, Refused}
-use Rattle.fields.specs.declared.Field.{Field}
-use Rattle.fields.specs.declared.Field.the-variants as field
 use Rattle.fields.specs.declared.Refusal.{Refusal}
 use Rattle.fields.specs.declared.Refusal.the-variants as refusal
 use Rattle.fields.specs.declared.Shape.{Shape}
-use Rattle.fields.specs.Table.{twoOf, manyOf}
 use Rattle.fields.specs.Answers.{left}
 use Rattle.writing.specs.Write.{written, measured, stored, writeShape}
 use Rattle.writing.proofs.AnswerLaws.{measured-sized}
 use Rattle.writing.proofs.WholeLaws.{size-is-length}
+use Rattle.types.specs.Write.{headShape, resultShape}
 use Rattle.sections.specs.declared.Phase.{Phase}
-use Rattle.sections.specs.declared.Phase.the-variants.{Closed, Opened, Asynced, Parametered}
+use Rattle.sections.specs.declared.Phase.the-variants.{Closed, Opened, Headed}
 use Rattle.sections.specs.declared.Section.{Section}
 use Rattle.sections.specs.Section.{familyBytes, measuredFamily, opened, holds, sounds}
-use Rattle.sections.specs.Steps.{Turn, turned, refused, refuse, taken, wrote, asyncIn, paramsFrom, paramsIn, resultIn, rowing, opening, asyncing, paraming, resulting}
+use Rattle.sections.specs.Steps.{Turn, turned, refused, refuse, taken, wrote, headIn, resultIn, rowing, opening, heading, resulting}
 use Rattle.sections.specs.Runs.{Accepted}
 use Rattle.sections.proofs.FamilyLaws.{family-stored, family-size}
 
@@ -70,16 +68,6 @@ grows-then {s} {t} {u} {body} {new} {end} {front} {back} g h =
     }
 
 -- ---- what each step does
-
--- the shapes of an open entry's steps
-abbrev pub asyncShape : Shape
-asyncShape = twoOf field.Nothing field.Nothing field.Async field.Nothing
-
-abbrev pub paramsShape : Field → Shape
-paramsShape lead = manyOf lead field.Nothing field.Nothing field.Name field.Value field.Nothing
-
-abbrev pub resultShape : Shape
-resultShape = twoOf field.Nothing field.Nothing field.Result field.Nothing
 
 -- what holds both ways holds of a test
 pub either : (P : Turn → Type 0) (b : Bool) (x y : Turn) → P x → P y → P (cond b x y)
@@ -172,23 +160,16 @@ module _ (s : Section) (body : List ℕ) where
 
   -- the steps of an open entry, each in its turn
   module _ {start : ℕ} where
-    pub async-turns : s .phase ≡ Opened start → (a : ℕ)
-        → Turns s body (measured asyncShape (a ∷ []) 0 []) (written asyncShape [] (a ∷ []) 0) (s .count) (Asynced start) (asyncing s a body)
-    unfolding asyncing
-    async-turns p a = rw (ap (λ q. asyncIn q s a body) p) (when-sound (λ h. shape-turns s body (s .count) (Asynced start) asyncShape (a ∷ []) []))
-
-    pub params-turns : (lead : Field) (words pool : List ℕ) → paramsIn (s .phase) s words pool body ≡ paramsFrom lead start s words pool body
-        → Turns s body (measured (paramsShape lead) words 0 pool) (written (paramsShape lead) pool words 0) (s .count) (Parametered start)
-        (paraming s words pool body)
-    unfolding paraming
-    params-turns lead words pool p =
-        rw p
+    pub head-turns : s .phase ≡ Opened start → (words pool : List ℕ)
+        → Turns s body (measured headShape words 0 pool) (written headShape pool words 0) (s .count) (Headed start) (heading s words pool body)
+    unfolding heading
+    head-turns p words pool =
+        rw (ap (λ q. headIn q s words pool body) p)
         (when-sound
         (λ h. unless (ltb 16384 (length words)) refusal.Limit
-        (unless (ltb 65536 (length pool)) refusal.Limit
-        (shape-turns s body (s .count) (Parametered start) (paramsShape lead) words pool))))
+        (unless (ltb 65536 (length pool)) refusal.Limit (shape-turns s body (s .count) (Headed start) headShape words pool))))
 
-    pub result-turns : s .phase ≡ Parametered start → (tag x : ℕ)
+    pub result-turns : s .phase ≡ Headed start → (tag x : ℕ)
         → Turns s body (measured resultShape (tag ∷ x ∷ []) 0 []) (written resultShape [] (tag ∷ x ∷ []) 0) (s .count) Closed (resulting s tag x body)
     unfolding resulting
     result-turns p tag x = rw (ap (λ q. resultIn q s tag x body) p) (when-sound (λ h. shape-turns s body (s .count) Closed resultShape (tag ∷ x ∷ []) []))

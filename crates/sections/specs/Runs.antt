@@ -4,7 +4,7 @@ use mathlib.Core.List.{List, [], _∷_, _++_}
 use Rattle.fields.specs.declared.Answer.{Answer}
 use Rattle.fields.specs.declared.Answer.the-variants.{Size, Refused}
 use Rattle.sections.specs.declared.Section.{Section}
-use Rattle.sections.specs.Steps.{Turn, rowing, opening, asyncing, paraming, resulting, abandoning}
+use Rattle.sections.specs.Steps.{Turn, rowing, opening, heading, resulting, abandoning}
 use mathlib.Core.Logic.{_⊎_}
 use mathlib.Core.Path.{_≡_}
 use lib.ListN.{length, getD, take}
@@ -16,16 +16,14 @@ use Rattle.sections.specs.Section.{familyBytes}
 pub data Step : Type 0 where
   Row : List ℕ → List ℕ → Step
   Open : Step
-  Async : ℕ → Step
-  Params : List ℕ → List ℕ → Step
+  Head : List ℕ → List ℕ → Step
   Result : ℕ → ℕ → Step
   Abandon : Step
 
 abbrev pub turn : Step → Section → List ℕ → Turn
 turn (Row row pool) s body = rowing s row pool body
 turn Open s body = opening s body
-turn (Async a) s body = asyncing s a body
-turn (Params words pool) s body = paraming s words pool body
+turn (Head words pool) s body = heading s words pool body
 turn (Result tag x) s body = resulting s tag x body
 turn Abandon s body = abandoning s body
 

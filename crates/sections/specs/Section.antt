@@ -18,7 +18,7 @@ use Rattle.canonicals.specs.Write.{writeCanonical}
 use Rattle.instances.specs.Write as instances
 use Rattle.instances.specs.Write.{writeCoreInstance, writeInstance}
 use Rattle.sections.specs.declared.Phase.{Phase}
-use Rattle.sections.specs.declared.Phase.the-variants.{Closed, Opened, Asynced, Parametered}
+use Rattle.sections.specs.declared.Phase.the-variants.{Closed, Opened, Headed}
 use Rattle.sections.specs.declared.Section.{Section}
 
 -- a section with nothing in it
@@ -55,8 +55,7 @@ knownFamily family = known (entriesOf family)
 abbrev pub opened : Phase → Bool
 opened Closed = false
 opened (Opened start) = true
-opened (Asynced start) = true
-opened (Parametered start) = true
+opened (Headed start) = true
 
 -- an open entry is a type's, starts within the used part, and is counted
 unfoldable pub holdsAt : Section → ℕ → Bool
@@ -65,8 +64,7 @@ holdsAt s start = cond (eqb (s .family) 7) (cond (leb start (s .used)) (ltb 0 (s
 abbrev pub holds : Phase → Section → Bool
 holds Closed s = knownFamily (s .family)
 holds (Opened start) s = holdsAt s start
-holds (Asynced start) s = holdsAt s start
-holds (Parametered start) s = holdsAt s start
+holds (Headed start) s = holdsAt s start
 
 -- the used part is no longer than the body of n bytes
 unfoldable pub sounds : Section → ℕ → Bool

@@ -6,15 +6,13 @@ use lib.Dec.{eqb, ltb}
 use lib.ListN.{length}
 use Rattle.fields.specs.declared.Answer.{Answer}
 use Rattle.fields.specs.declared.Answer.the-variants.{Size, Refused}
-use Rattle.fields.specs.declared.Field.{Field}
-use Rattle.fields.specs.declared.Field.the-variants as field
 use Rattle.fields.specs.declared.Refusal.{Refusal}
 use Rattle.fields.specs.declared.Refusal.the-variants as refusal
-use Rattle.fields.specs.Table.{twoOf, manyOf}
 use Rattle.fields.specs.Answers.{Left}
 use Rattle.writing.specs.Write.{writeShape}
+use Rattle.types.specs.Write.{headShape, resultShape}
 use Rattle.sections.specs.declared.Phase.{Phase}
-use Rattle.sections.specs.declared.Phase.the-variants.{Closed, Opened, Asynced, Parametered}
+use Rattle.sections.specs.declared.Phase.the-variants.{Closed, Opened, Headed}
 use Rattle.sections.specs.declared.Section.{Section}
 use Rattle.sections.specs.declared.Turned.{Turned}
 use Rattle.sections.specs.Section.{opened, sounds, writeFamily}
@@ -68,43 +66,24 @@ opening s body =
     (cond (eqb (s .family) 7) (turned (taken s (Size 0) (s .count + 1) (Opened (s .used))) body) (refuse s refusal.Kind body))))
     (refuse s refusal.Limit body)
 
--- async: the byte 40, or 43
-abbrev pub asyncIn : Phase → Section → ℕ → List ℕ → Turn
-asyncIn (Opened start) s a body =
-    wrote s (s .count) (Asynced start) (writeShape (twoOf field.Nothing field.Nothing field.Async field.Nothing) (a ∷ []) 0 [] body (s .used))
-asyncIn Closed s a body = refuse s refusal.Order body
-asyncIn (Asynced start) s a body = refuse s refusal.Order body
-asyncIn (Parametered start) s a body = refuse s refusal.Order body
+-- head: a, n and n of (N,V), as in a function's row
+abbrev pub headIn : Phase → Section → List ℕ → List ℕ → List ℕ → Turn
+headIn (Opened start) s words pool body = wrote s (s .count) (Headed start) (writeShape headShape words 0 pool body (s .used))
+headIn Closed s words pool body = refuse s refusal.Order body
+headIn (Headed start) s words pool body = refuse s refusal.Order body
 
-unfoldable pub asyncing : Section → ℕ → List ℕ → Turn
-asyncing s a body = cond (sounds s (length body)) (asyncIn (s .phase) s a body) (refuse s refusal.Limit body)
-
--- params: n and n of (N,V), and the byte 40 first where async was not given
-abbrev pub paramsFrom : Field → ℕ → Section → List ℕ → List ℕ → List ℕ → Turn
-paramsFrom lead start s words pool body =
-    wrote s (s .count) (Parametered start)
-    (writeShape (manyOf lead field.Nothing field.Nothing field.Name field.Value field.Nothing) words 0 pool body (s .used))
-
-abbrev pub paramsIn : Phase → Section → List ℕ → List ℕ → List ℕ → Turn
-paramsIn (Opened start) s words pool body = paramsFrom (field.Fixed 0x40) start s words pool body
-paramsIn (Asynced start) s words pool body = paramsFrom field.Nothing start s words pool body
-paramsIn Closed s words pool body = refuse s refusal.Order body
-paramsIn (Parametered start) s words pool body = refuse s refusal.Order body
-
-unfoldable pub paraming : Section → List ℕ → List ℕ → List ℕ → Turn
-paraming s words pool body =
+unfoldable pub heading : Section → List ℕ → List ℕ → List ℕ → Turn
+heading s words pool body =
     cond (sounds s (length body))
     (cond (ltb rowWords (length words)) (refuse s refusal.Limit body)
-    (cond (ltb poolBytes (length pool)) (refuse s refusal.Limit body) (paramsIn (s .phase) s words pool body)))
+    (cond (ltb poolBytes (length pool)) (refuse s refusal.Limit body) (headIn (s .phase) s words pool body)))
     (refuse s refusal.Limit body)
 
 -- result: an O, which closes the entry
 abbrev pub resultIn : Phase → Section → ℕ → ℕ → List ℕ → Turn
-resultIn (Parametered start) s tag x body =
-    wrote s (s .count) Closed (writeShape (twoOf field.Nothing field.Nothing field.Result field.Nothing) (tag ∷ x ∷ []) 0 [] body (s .used))
+resultIn (Headed start) s tag x body = wrote s (s .count) Closed (writeShape resultShape (tag ∷ x ∷ []) 0 [] body (s .used))
 resultIn Closed s tag x body = refuse s refusal.Order body
 resultIn (Opened start) s tag x body = refuse s refusal.Order body
-resultIn (Asynced start) s tag x body = refuse s refusal.Order body
 
 unfoldable pub resulting : Section → ℕ → ℕ → List ℕ → Turn
 resulting s tag x body = cond (sounds s (length body)) (resultIn (s .phase) s tag x body) (refuse s refusal.Limit body)
@@ -116,8 +95,7 @@ withdrawn s start = gives (record { family = s .family; used = start; count = s 
 abbrev pub abandonIn : Phase → Section → List ℕ → Turn
 abandonIn Closed s body = refuse s refusal.Order body
 abandonIn (Opened start) s body = turned (withdrawn s start) body
-abandonIn (Asynced start) s body = turned (withdrawn s start) body
-abandonIn (Parametered start) s body = turned (withdrawn s start) body
+abandonIn (Headed start) s body = turned (withdrawn s start) body
 
 unfoldable pub abandoning : Section → List ℕ → Turn
 abandoning s body = cond (sounds s (length body)) (abandonIn (s .phase) s body) (refuse s refusal.Limit body)

@@ -10,7 +10,7 @@ ghost use lib.ListN.{length};
 ghost use lib.Seq.{sets};
 ghost use Rattle.fields.specs.Answers.{left};
 ghost use Rattle.sections.specs.Section.{fresh, knownFamily, holdsAt, sounds, opened, writeFamily};
-ghost use Rattle.sections.specs.Steps.{turned, refused, withdrawn, taken, rowing, opening, asyncing, paraming, resulting, abandoning};
+ghost use Rattle.sections.specs.Steps.{turned, refused, withdrawn, taken, rowing, opening, heading, resulting, abandoning};
 ghost use Rattle.sections.specs.inside.Bounded.{Bounded};
 ghost use Rattle.sections.specs.Finish.{framed, framing, finishing};
 
@@ -20,10 +20,8 @@ pub enum Phase {
     Closed,
     // Nothing of it is written.
     Opened(usize),
-    // Its first byte is written.
-    Asynced(usize),
-    // Its parameters are written too.
-    Parametered(usize),
+    // Its head is written: the first byte and the parameters.
+    Headed(usize),
 }
 
 pub struct Section {
@@ -77,8 +75,7 @@ impl Phase {
         match self {
             Phase::Closed => false,
             Phase::Opened(_) => true,
-            Phase::Asynced(_) => true,
-            Phase::Parametered(_) => true,
+            Phase::Headed(_) => true,
         }
     }
 }
@@ -125,8 +122,7 @@ impl Section {
         match phase {
             Phase::Closed => is_known(family),
             Phase::Opened(start) => self.holds(start),
-            Phase::Asynced(start) => self.holds(start),
-            Phase::Parametered(start) => self.holds(start),
+            Phase::Headed(start) => self.holds(start),
         }
     }
 
@@ -213,30 +209,9 @@ impl Section {
         self.refuse(Refusal::Kind, 0)
     }
 
-    // The function's first byte: 40, or 43 where a is 1.
-    pub fn make_async(self, a: u32, body: &mut [u8]) -> Turned
-        ensures { λ r. ⌜ turned r (now (body .exit)) ≡ asyncing self a (now (body .entry)) ⌝ }
-    {
-        let used = self.used;
-        let count = self.count;
-        let phase = self.phase;
-        if !self.sound(body.len()) {
-            return self.refuse(Refusal::Limit, 0);
-        }
-        match phase {
-            Phase::Opened(start) => {
-                let answer = types::write_async(a, body, used);
-                self.after(answer, count, Phase::Asynced(start))
-            }
-            Phase::Closed => self.refuse(Refusal::Order, 0),
-            Phase::Asynced(_) => self.refuse(Refusal::Order, 0),
-            Phase::Parametered(_) => self.refuse(Refusal::Order, 0),
-        }
-    }
-
-    // The function's parameters: n and n of (N,V). Without async given before, 40 comes first.
-    pub fn params(self, words: &[u32], pool: &[u8], body: &mut [u8]) -> Turned
-        ensures { λ r. ⌜ turned r (now (body .exit)) ≡ paraming self (now (words .entry)) (now (pool .entry)) (now (body .entry)) ⌝ }
+    // The function's head: a, n and n of (N,V), which make 40, or 43 where a is 1, the count and the parameters.
+    pub fn head(self, words: &[u32], pool: &[u8], body: &mut [u8]) -> Turned
+        ensures { λ r. ⌜ turned r (now (body .exit)) ≡ heading self (now (words .entry)) (now (pool .entry)) (now (body .entry)) ⌝ }
     {
         let used = self.used;
         let count = self.count;
@@ -252,15 +227,11 @@ impl Section {
         }
         match phase {
             Phase::Opened(start) => {
-                let answer = types::write_params(true, words, pool, body, used);
-                self.after(answer, count, Phase::Parametered(start))
-            }
-            Phase::Asynced(start) => {
-                let answer = types::write_params(false, words, pool, body, used);
-                self.after(answer, count, Phase::Parametered(start))
+                let answer = types::write_head(words, pool, body, used);
+                self.after(answer, count, Phase::Headed(start))
             }
             Phase::Closed => self.refuse(Refusal::Order, 0),
-            Phase::Parametered(_) => self.refuse(Refusal::Order, 0),
+            Phase::Headed(_) => self.refuse(Refusal::Order, 0),
         }
     }
 
@@ -275,13 +246,12 @@ impl Section {
             return self.refuse(Refusal::Limit, 0);
         }
         match phase {
-            Phase::Parametered(_) => {
+            Phase::Headed(_) => {
                 let answer = types::write_result(tag, x, body, used);
                 self.after(answer, count, Phase::Closed)
             }
             Phase::Closed => self.refuse(Refusal::Order, 0),
             Phase::Opened(_) => self.refuse(Refusal::Order, 0),
-            Phase::Asynced(_) => self.refuse(Refusal::Order, 0),
         }
     }
 
@@ -295,8 +265,7 @@ impl Section {
         }
         match phase {
             Phase::Opened(start) => self.back_to(start),
-            Phase::Asynced(start) => self.back_to(start),
-            Phase::Parametered(start) => self.back_to(start),
+            Phase::Headed(start) => self.back_to(start),
             Phase::Closed => self.refuse(Refusal::Order, 0),
         }
     }

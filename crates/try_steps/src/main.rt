@@ -6,17 +6,16 @@
 //   pool-size N        the pool is N bytes `a`
 //   body N             the body is N bytes, filled anew
 //   grow N             the body is N bytes; those that it had stay
-//   state F U C P S    the state: family, used, count, phase (0 closed, 1 opened, 2 async given, 3 params given), start (0 if closed)
+//   state F U C P S    the state: family, used, count, phase (0 closed, 1 opened, 2 headed), start (0 if closed)
 //   new F              a fresh section's state
 //   row W W ..         the steps, with the words that they are given
 //   open
-//   async A
-//   params W W ..
+//   head W W ..
 //   result TAG X
 //   abandon
 //   finish N           into a buffer of N bytes
 //   long KIND N        a row of N words, all 0 after the first
-//   long-params N      params of N words, all 0 after the first, which is N / 4
+//   long-head N        a head of N words, all 0 but the second, which is N / 4
 // A step's answer is a line: `ok SIZE` or `refused NUMBER VALUE NAME`, with ` byte B` behind TEXT; then the state, `family F used U
 // count C phase P start S`; then, if the step was taken, the used part of the body or what was finished; and ` changed` where a
 // refusal did not leave everything as it was, or a step that was taken changed a byte that it does not count. What is none of these,
@@ -62,7 +61,7 @@ enum Command {
     New,
     Take(Step),
     Long,
-    LongParams,
+    LongHead,
     Finish,
     Other,
 }
@@ -70,8 +69,7 @@ enum Command {
 enum Step {
     Row,
     Open,
-    Async,
-    Params,
+    Head,
     Result,
     Abandon,
 }
@@ -80,8 +78,7 @@ fn phase_number(phase: Phase) -> u64 {
     match phase {
         Phase::Closed => 0,
         Phase::Opened(_) => 1,
-        Phase::Asynced(_) => 2,
-        Phase::Parametered(_) => 3,
+        Phase::Headed(_) => 2,
     }
 }
 
@@ -90,8 +87,7 @@ fn start_of(phase: Phase) -> usize {
     match phase {
         Phase::Closed => 0,
         Phase::Opened(start) => start,
-        Phase::Asynced(start) => start,
-        Phase::Parametered(start) => start,
+        Phase::Headed(start) => start,
     }
 }
 
@@ -167,8 +163,7 @@ fn take(step: Step, section: Section, words: &[u32], pool: &[u8], body: &mut [u8
     match step {
         Step::Row => section.row(words, pool, body),
         Step::Open => section.open(body),
-        Step::Async => section.make_async(word(words, 0), body),
-        Step::Params => section.params(words, pool, body),
+        Step::Head => section.head(words, pool, body),
         Step::Result => section.result(word(words, 0), word(words, 1), body),
         Step::Abandon => section.abandon(body),
     }
@@ -210,18 +205,18 @@ fn try_given(step: Step, section: Section, line: &[u8], pool: &[u8], body: &mut 
     try_words(step, section, &words, n, pool, body)
 }
 
-// The step with n words, all 0 after the first.
-fn try_long(
-    step: Step,
-    section: Section,
-    first: usize,
-    n: usize,
-    pool: &[u8],
-    body: &mut [u8],
-) -> Section {
+// A row of n words, all 0 after the kind.
+fn try_long_row(section: Section, kind: usize, n: usize, pool: &[u8], body: &mut [u8]) -> Section {
     let mut words = [0u32; WORDS];
-    words[0] = word_of(first);
-    try_words(step, section, &words, n, pool, body)
+    words[0] = word_of(kind);
+    try_words(Step::Row, section, &words, n, pool, body)
+}
+
+// A head of n words, all 0 but the count, which is a quarter of them.
+fn try_long_head(section: Section, n: usize, pool: &[u8], body: &mut [u8]) -> Section {
+    let mut words = [0u32; WORDS];
+    words[1] = word_of(n / 4);
+    try_words(Step::Head, section, &words, n, pool, body)
 }
 
 // Finishes into a buffer, and prints the line.
@@ -257,8 +252,7 @@ fn try_finish(section: Section, line: &[u8], body: &[u8]) {
 fn phase_of(phase: usize, start: usize) -> Phase {
     match phase {
         1 => Phase::Opened(start),
-        2 => Phase::Asynced(start),
-        3 => Phase::Parametered(start),
+        2 => Phase::Headed(start),
         _ => Phase::Closed,
     }
 }
@@ -280,11 +274,8 @@ fn step_of(line: &[u8]) -> Command {
     if starts_with(line, b"open") {
         return Command::Take(Step::Open);
     }
-    if starts_with(line, b"async ") {
-        return Command::Take(Step::Async);
-    }
-    if starts_with(line, b"params") {
-        return Command::Take(Step::Params);
+    if starts_with(line, b"head") {
+        return Command::Take(Step::Head);
     }
     if starts_with(line, b"result ") {
         return Command::Take(Step::Result);
@@ -295,8 +286,8 @@ fn step_of(line: &[u8]) -> Command {
     if starts_with(line, b"long ") {
         return Command::Long;
     }
-    if starts_with(line, b"long-params ") {
-        return Command::LongParams;
+    if starts_with(line, b"long-head ") {
+        return Command::LongHead;
     }
     if starts_with(line, b"finish ") {
         return Command::Finish;
@@ -340,8 +331,8 @@ fn act_on(
     let first = number_at(line, 0);
     match command {
         Command::Take(step) => try_given(step, section, line, pool, body),
-        Command::Long => try_long(Step::Row, section, first, number_at(line, 1), pool, body),
-        Command::LongParams => try_long(Step::Params, section, first / 4, first, pool, body),
+        Command::Long => try_long_row(section, first, number_at(line, 1), pool, body),
+        Command::LongHead => try_long_head(section, first, pool, body),
         Command::Finish => {
             try_finish(section, line, body);
             section

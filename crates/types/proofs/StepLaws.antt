@@ -6,19 +6,17 @@ use mathlib.Core.Bool.{Bool, true, false, cond}
 use mathlib.Core.List.{List, [], _∷_, _++_, append-nil}
 use borrow.Author.Tests.{leb-false, lt-leb, le-leb, lt-ltb, le-ltb, eq-eqb}
 use lib.Dec.{eqb}
-use lib.ListN.{length, drop, set}
+use lib.ListN.{length, drop}
 use lib.Seq.{sets}
 use Rattle.numbers.specs.Bytes as storing
 use Rattle.numbers.specs.Bytes.{store}
 use Rattle.numbers.specs.Leb.{unsigned}
 use Rattle.numbers.specs.Numbers.{valueOf}
 use Rattle.numbers.specs.declared.bytes.Stored.{Stored}
-use Rattle.numbers.proofs.LebLaws.{size-bounds}
 use Rattle.fields.specs.declared.Answer.{Answer}
 use Rattle.fields.specs.declared.Answer.the-variants.{Size, Refused}
 use Rattle.fields.specs.declared.Field.{Field}
 use Rattle.fields.specs.declared.Field.the-variants as field
-use Rattle.fields.specs.declared.Flaw.the-variants.{Right}
 use Rattle.fields.specs.declared.Found.the-variants.{Is}
 use Rattle.fields.specs.declared.Leaf.{Leaf}
 use Rattle.fields.specs.declared.Leaf.the-variants.{Fine, Bad}
@@ -34,22 +32,22 @@ use Rattle.fields.specs.inside.Stages.{later}
 use Rattle.writing.specs.inside.Wrote.{Wrote}
 use Rattle.fields.specs.Shape.{opening, group, repeated, seq, widths, rowWidth}
 use Rattle.fields.specs.Table.{elements}
-use Rattle.fields.specs.Walk.{next, walk, outs}
+use Rattle.fields.specs.Walk.{next, outs}
 use Rattle.fields.specs.Answers.{left, refuse}
 use Rattle.writing.specs.Write.{judged, written, sized, measured, stored, writeShape}
 use Rattle.writing.proofs.AnswerLaws.{Sized, measured-sized}
 use Rattle.writing.proofs.PutLaws.{allFields, judged-along}
 use Rattle.writing.proofs.TableLaws.{strings, written-right}
 use Rattle.writing.proofs.WholeLaws.{Accepted, accepted, sized-accepted, size-is-length}
-use Rattle.writing.proofs.WroteLaws.{nothing, then, same-size, of-store, room-first, room-then}
+use Rattle.writing.proofs.WroteLaws.{then, same-size, of-store, room-first, room-then}
 use Rattle.writing.specs.Sizes.{within}
 use Rattle.writing.specs.inside.Rows.{Rights, Groups}
-use Rattle.writing.proofs.GroupLaws.{word-at, labelled-element, byte-wrote}
-use Rattle.writing.proofs.RowLaws.{nothing-at, bare-known, many-known, many-held, ManyHeld}
+use Rattle.writing.proofs.GroupLaws.{word-at, labelled-element}
+use Rattle.writing.proofs.RowLaws.{nothing-at, async-at, bare-known, many-known, many-held, ManyHeld}
 use Rattle.types.specs.inside.Optional.{OptionalKnown}
 use Rattle.types.specs.Table.{labelvaltype}
-use Rattle.types.specs.Write.{asyncShape, paramsShape, resultShape}
-use Rattle.types.specs.inside.Function.{paramsLead}
+use Rattle.types.specs.Write.{headShape, resultShape}
+use Rattle.types.specs.inside.Function.{headBytes}
 use Rattle.types.proofs.FunctionLaws.{result-length, known-result}
 use Rattle.numbers.proofs.Impossible.{impossible}
 
@@ -161,129 +159,91 @@ module _ (s : Shape) (pool words : List ℕ) where
         judges : judged s pool (0 ∷ words) 1 ≡ Fine (1 + k .end) n
         judges = judged-moved ∙ ap moved (k .judges)
 
--- ---- a count and as many parameters, behind 40 or not
+-- ---- the head: the first byte, a count and as many parameters
 
-abbrev pub paramsBytes : Bool → List ℕ → List ℕ → List ℕ
-paramsBytes first words pool =
-    paramsLead first ++ (unsigned (word words 0) ++ elements (word words 0) 4 (labelvaltype pool) (drop 1 words))
-
-abbrev L : Bool → Field
-L first = cond first (field.Fixed 0x40) field.Nothing
-
-lead-wide : (first : Bool) → wide (L first) ≡ 0
-unfolding wide
-lead-wide true = refl
-lead-wide false = refl
-
-lead-right : (first : Bool) (pool ws : List ℕ) → flaw pool (L first) ws ≡ Right
-unfolding flaw
-lead-right true pool ws = refl
-lead-right false pool ws = refl
-
-lead-bytes : (first : Bool) (pool ws : List ℕ) → bytes pool (L first) ws ≡ paramsLead first
-unfolding bytes
-lead-bytes true pool ws = refl
-lead-bytes false pool ws = refl
-
-pub record ParamsHeld (first : Bool) (words pool : List ℕ) (n : ℕ) : Type 0 where
-  pub width : length words ≡ 1 + word words 0 * 4
-  pub groups : Rights pool (repeated (word words 0) (field.Name ∷ field.Value ∷ [])) (drop 1 words)
-  pub size : n ≡ length (paramsBytes first words pool)
+pub record HeadHeld (words pool : List ℕ) (n : ℕ) : Type 0 where
+  pub width : length words ≡ 2 + word words 1 * 4
+  pub groups : Rights pool (repeated (word words 1) (field.Name ∷ field.Value ∷ [])) (drop 2 words)
+  pub size : n ≡ length (headBytes pool words)
   pub some : 0 < n
-  pub made : written (paramsShape first) pool words 0 ≡ paramsBytes first words pool
+  pub made : written headShape pool words 0 ≡ headBytes pool words
 
-module _ (first : Bool) (words pool : List ℕ) where
-  pub params-known : length pool ≤ 65536 → length words ≤ 16384 → length words ≡ 1 + word words 0 * 4
-      → {base r : ℕ} → base ≡ length (paramsLead first) + length (unsigned (word words 0))
-      → Groups pool (field.Name ∷ field.Value ∷ []) (labelvaltype pool) (word words 0) (drop 1 words) base r
-      → measured (paramsShape first) words 0 pool ≡ Size r
+module _ (words pool : List ℕ) where
+  pub head-known : length pool ≤ 65536 → length words ≤ 16384 → length words ≡ 2 + word words 1 * 4 → word words 0 < 2
+      → {base r : ℕ} → base ≡ 1 + length (unsigned (word words 1))
+      → Groups pool (field.Name ∷ field.Value ∷ []) (labelvaltype pool) (word words 1) (drop 2 words) base r
+      → measured headShape words 0 pool ≡ Size r
   unfolding wide widths flaw bytes
-  params-known small short width eb g =
-      row-step (paramsShape first) pool words
-      (many-known (L first) field.Nothing field.Nothing field.Name field.Value field.Nothing (lead-wide first) refl refl (0 ∷ words) pool
-      (λ ws. labelled-element pool ws) (lead-right first pool) (λ ws. refl) small (omega arith) (omega arith) (nothing-at pool words)
-      (omega (arith, ap length (lead-bytes first pool words))) g (nothing-at pool (drop (2 + word words 0 * 4) (0 ∷ words))) (omega arith))
+  head-known small short width a eb g =
+      row-step headShape pool words
+      (many-known field.Nothing field.Nothing field.Async field.Name field.Value field.Nothing refl refl refl (0 ∷ words) pool
+      (λ ws. labelled-element pool ws) (λ ws. refl) (λ ws. refl) small (omega arith) (omega arith) (async-at pool (0 ∷ words) 1 refl a)
+      (omega arith) g (nothing-at pool (drop (3 + word words 1 * 4) (0 ∷ words))) (omega arith))
 
-  pub params-held : {n : ℕ} → measured (paramsShape first) words 0 pool ≡ Size n → ParamsHeld first words pool n
+  pub head-held : {n : ℕ} → measured headShape words 0 pool ≡ Size n → HeadHeld words pool n
   unfolding wide widths bytes rowWidth
-  params-held {n} e =
+  head-held {n} e =
       record {
         width = width;
         groups = h .groups;
         size = size-is-length k ∙ ap length made;
-        some = some;
+        some = omega (arith, h .size);
         made = made;
       }
     where
-      k : Sized (paramsShape first) words 0 pool n
-      k = measured-sized (paramsShape first) words 0 pool refl n e
+      k : Sized headShape words 0 pool n
+      k = measured-sized headShape words 0 pool refl n e
 
-      width : length words ≡ 1 + word words 0 * 4
-      width =
-          let p : 0 + widths (opening (paramsShape first)) ≡ 0 = omega (arith, lead-wide first) in
-          omega (arith, k .width, lead-wide first, ap (λ j. word words j) p)
+      width : length words ≡ 2 + word words 1 * 4
+      width = omega (arith, k .width)
 
-      row : (measuredRow (Is (paramsShape first)) (0 ∷ words) pool ≡ Size n)
-          × (written (paramsShape first) pool words 0 ≡ rowBytes (Is (paramsShape first)) pool (0 ∷ words))
-      row = step-row (paramsShape first) pool words k (omega (arith, k .short, width))
+      row : (measuredRow (Is headShape) (0 ∷ words) pool ≡ Size n) × (written headShape pool words 0 ≡ rowBytes (Is headShape) pool (0 ∷ words))
+      row = step-row headShape pool words k (omega (arith, k .short, width))
 
-      h : ManyHeld (L first) field.Nothing field.Nothing field.Name field.Value field.Nothing 4 (labelvaltype pool) (0 ∷ words) pool n
+      h : ManyHeld field.Nothing field.Nothing field.Async field.Name field.Value field.Nothing 4 (labelvaltype pool) (0 ∷ words) pool n
       h =
-          many-held (L first) field.Nothing field.Nothing field.Name field.Value field.Nothing (lead-wide first) refl refl (0 ∷ words) pool
+          many-held field.Nothing field.Nothing field.Async field.Name field.Value field.Nothing refl refl refl (0 ∷ words) pool
           (λ ws. labelled-element pool ws) (row .0)
 
-      made : written (paramsShape first) pool words 0 ≡ paramsBytes first words pool
+      made : written headShape pool words 0 ≡ headBytes pool words
       made =
           row .1 ∙ h .made
-          ∙ (λ i. lead-bytes first pool words i
-          ++ (unsigned (word words 0) ++ append-nil (elements (word words 0) 4 (labelvaltype pool) (drop 1 words)) i))
+          ∙ ap (λ l. functype (word words 0) ∷ (unsigned (word words 1) ++ l))
+          (append-nil (elements (word words 1) 4 (labelvaltype pool) (drop 2 words)))
 
-      some : 0 < n
-      some = omega (arith, h .size, size-bounds 128 (word words 0) .0)
-
--- how many bytes stand before the count, and what they leave
-pub lead-size : {first b : Bool} {head : ℕ} → first ≡ b → head ≡ length (paramsLead b) → head ≡ length (paramsLead first)
-lead-size e h = h ∙ ap (λ b. length (paramsLead b)) (sym e)
-
-module _ {first : Bool} {old one : List ℕ} {at to : ℕ} where
-  pub lead-first : first ≡ true → one ≡ set old at 0x40 → to ≡ at + 1 → Wrote old at (paramsLead first) to one
-  lead-first e p q = rw (e, p, q) (byte-wrote old at 0x40)
-
-  pub lead-none : first ≡ false → one ≡ old → to ≡ at → Wrote old at (paramsLead first) to one
-  lead-none e p q = rw (e, p, q) (nothing old at)
-
-module _ (first : Bool) (words pool old : List ℕ) (at : ℕ) (room : at + length (paramsBytes first words pool) ≤ length old) where
+-- its parts put one after the other
+module _ (words pool old : List ℕ) (at : ℕ) (room : at + length (headBytes pool words) ≤ length old) where
   abbrev U : List ℕ
-  U = unsigned (word words 0)
+  U = unsigned (word words 1)
 
   abbrev G : List ℕ
-  G = elements (word words 0) 4 (labelvaltype pool) (drop 1 words)
+  G = elements (word words 1) 4 (labelvaltype pool) (drop 2 words)
 
-  pub lead-room : first ≡ true → at + 1 ≤ length old
-  lead-room e = room-first (0x40 ∷ []) (U ++ G) at (length old) (subst (λ b. at + length (paramsLead b ++ (U ++ G)) ≤ length old) e room)
+  pub lead-room : at + 1 ≤ length old
+  lead-room = room-first (functype (word words 0) ∷ []) (U ++ G) at (length old) room
 
-  module _ {one : List ℕ} {to : ℕ} (lead : Wrote old at (paramsLead first) to one) where
-    behind-lead : to + length (U ++ G) ≤ length one
+  module _ {one : List ℕ} (lead : Wrote old at (functype (word words 0) ∷ []) (at + 1) one) where
+    behind-lead : at + 1 + length (U ++ G) ≤ length one
     behind-lead = room-then lead (U ++ G) room
 
-    pub count-wrote : {two : List ℕ} {p : Stored} {s : ℕ} → storing.left p two ≡ store (unsigned (word words 0)) to one → s ≡ valueOf p
-        → Wrote one to (unsigned (word words 0)) (to + s) two
-    count-wrote e v = of-store e v (room-first U G to (length one) behind-lead)
+    pub count-wrote : {two : List ℕ} {p : Stored} {s : ℕ} → storing.left p two ≡ store (unsigned (word words 1)) (at + 1) one → s ≡ valueOf p
+        → Wrote one (at + 1) (unsigned (word words 1)) (at + 1 + s) two
+    count-wrote e v = of-store e v (room-first U G (at + 1) (length one) behind-lead)
 
-    module _ {two : List ℕ} {next : ℕ} (count : Wrote one to (unsigned (word words 0)) next two) where
-      pub fields-room : next + length (elements (word words 0) 4 (labelvaltype pool) (drop 1 words)) ≤ length two
+    module _ {two : List ℕ} {next : ℕ} (count : Wrote one (at + 1) (unsigned (word words 1)) next two) where
+      pub fields-room : next + length (elements (word words 1) 4 (labelvaltype pool) (drop 2 words)) ≤ length two
       fields-room = room-then count G behind-lead
 
       pub count-ends : next ≤ length old
       count-ends = omega (arith, fields-room, same-size lead, same-size count)
 
-      pub params-wrote : {three : List ℕ} {end : ℕ} → Wrote two next (elements (word words 0) 4 (labelvaltype pool) (drop 1 words)) end three
-          → three ≡ sets old at (paramsBytes first words pool)
-      params-wrote w = then lead (then count w) .content
+      pub head-wrote : {three : List ℕ} {end : ℕ} → Wrote two next (elements (word words 1) 4 (labelvaltype pool) (drop 2 words)) end three
+          → three ≡ sets old at (headBytes pool words)
+      head-wrote w = then lead (then count w) .content
 
-      pub params-length : {three : List ℕ} {end : ℕ} → Wrote two next (elements (word words 0) 4 (labelvaltype pool) (drop 1 words)) end three
+      pub head-length : {three : List ℕ} {end : ℕ} → Wrote two next (elements (word words 1) 4 (labelvaltype pool) (drop 2 words)) end three
           → length three ≡ length old
-      params-length w = same-size (then lead (then count w))
+      head-length w = same-size (then lead (then count w))
 
 -- ---- the result
 
@@ -311,17 +271,3 @@ result-held tag x {n} e = (size, omega (arith, size, some))
 
     some : 0 < length (resultlist tag x)
     some = rw (result-length tag x) (positive (eqb tag 2))
-
--- ---- the first byte
-
-pub async-written : (a : ℕ) → written asyncShape [] (a ∷ []) 0 ≡ functype a ∷ []
-unfolding outs seq bytes judge flaw wide
-async-written a = refl
-
-pub async-right : (a : ℕ) → a < 2 → measured asyncShape (a ∷ []) 0 [] ≡ Size 1
-unfolding measured sized rowWidth widths wide walk seq judge flaw bytes
-async-right a h = simp (lt-ltb a 2 h)
-
-pub async-wrong : (a : ℕ) → 2 ≤ a → measured asyncShape (a ∷ []) 0 [] ≡ Refused refusal.Tag 0
-unfolding measured sized rowWidth widths wide walk seq judge flaw bytes
-async-wrong a h = simp (le-ltb a 2 h)

@@ -1,4 +1,4 @@
-// The parts of an open function, each written by a step: the first byte, the parameters, the result.
+// The parts of an open function, each written by a step: the head, which is the first byte and the parameters, and the result.
 use crate::counted::fields_size;
 use crate::counted::put_fields;
 use crate::function::async_byte;
@@ -13,47 +13,25 @@ use fields::Shape;
 use numbers::stored_size;
 use numbers::unsigned_size;
 ghost use Prim.Native.Nat.{_<_, _≤_, _+_, _*_};
-ghost use mathlib.Core.List.{_∷_, [], _++_};
+ghost use mathlib.Core.List.{_∷_, []};
 ghost use mathlib.Core.Path.{_≡_};
 ghost use lib.ListN.{length, drop};
 ghost use lib.Seq.{sets};
-ghost use Rattle.numbers.specs.Leb.{unsigned};
 ghost use Rattle.fields.specs.Words.{word};
 ghost use Rattle.fields.specs.Shape.{repeated};
-ghost use Rattle.fields.specs.Table.{elements};
 ghost use Rattle.fields.specs.Answers.{left};
 ghost use Rattle.writing.specs.Write.{measured, writeShape};
-ghost use Rattle.types.specs.Table.{labelvaltype};
-ghost use Rattle.types.specs.Write.{asyncShape, paramsShape, resultShape};
-ghost use Rattle.types.specs.inside.Function.{paramsLead};
+ghost use Rattle.types.specs.Write.{headShape, resultShape};
+ghost use Rattle.types.specs.inside.Function.{headBytes};
 ghost use Rattle.writing.specs.inside.Rows.{Rights};
 
-// The first byte: 40, or 43 where a is 1.
-pub fn write_async(a: u32, out: &mut [u8], at: usize) -> Answer
-    ensures { λ r. ⌜ left r (now (out .exit)) ≡ writeShape asyncShape (a ∷ []) 0 [] (now (out .entry)) at ⌝ }
+fn head_shape() -> Shape
+    ensures { λ r. ⌜ r ≡ headShape ⌝ }
 {
-    if 1 < a {
-        return Answer::Refused(Refusal::Tag, 0);
-    }
-    if at < out.len() {
-        out[at] = async_byte(a);
-        return Answer::Size(1);
-    }
-    Answer::Refused(Refusal::Room, 1)
-}
-
-fn params_shape(first: bool) -> Shape
-    ensures { λ r. ⌜ r ≡ paramsShape first ⌝ }
-{
-    let lead = if first {
-        Field::Fixed(0x40)
-    } else {
-        Field::Nothing
-    };
     Shape {
-        lead: lead,
+        lead: Field::Nothing,
         zero: Field::Nothing,
-        first: Field::Nothing,
+        first: Field::Async,
         second: Field::Nothing,
         counted: true,
         one: Field::Name,
@@ -62,9 +40,9 @@ fn params_shape(first: bool) -> Shape
     }
 }
 
-// How many bytes a count and as many parameters have, behind 40 or not; 0 where not all of it is seen to be right.
-fn params_size(first: bool, words: &[u32], pool: &[u8]) -> usize
-    ensures { λ r. ⌜ (0 < r → measured (paramsShape first) (now (words .entry)) 0 (now (pool .entry)) ≡ Answer.Size r) ⌝ }
+// How many bytes a head has; 0 where not all of it is seen to be right.
+fn head_size(words: &[u32], pool: &[u8]) -> usize
+    ensures { λ r. ⌜ (0 < r → measured headShape (now (words .entry)) 0 (now (pool .entry)) ≡ Answer.Size r) ⌝ }
 {
     if POOL_BYTES < pool.len() {
         return 0;
@@ -72,49 +50,49 @@ fn params_size(first: bool, words: &[u32], pool: &[u8]) -> usize
     if ROW_WORDS < words.len() {
         return 0;
     }
-    if 0 < words.len() {
-        let n = words[0] as usize;
-        if words.len() == 1 + n * 4 {
-            let head = if first { 1 } else { 0 };
-            return fields_size(words, 1, n, pool, head + unsigned_size(words[0]));
-        }
+    if words.len() < 2 {
+        return 0;
+    }
+    if 1 < words[0] {
+        return 0;
+    }
+    let n = words[1] as usize;
+    if words.len() == 2 + n * 4 {
+        return fields_size(words, 2, n, pool, 1 + unsigned_size(words[1]));
     }
     0
 }
 
-fn put_params(first: bool, words: &[u32], pool: &[u8], out: &mut [u8], at: usize)
-    requires { ⌜ length (now words) ≡ 1 + word (now words) 0 * 4 ⌝ }
-    requires { ⌜ Rights (now pool) (repeated (word (now words) 0) (Field.Name ∷ Field.Value ∷ [])) (drop 1 (now words)) ⌝ }
-    requires { ⌜ at + length (paramsLead first ++ (unsigned (word (now words) 0) ++ elements (word (now words) 0) 4 (labelvaltype (now pool)) (drop 1 (now words)))) ≤ length (now out) ⌝ }
-    ensures { λ _. ⌜ now (out .exit) ≡ sets (now (out .entry)) at (paramsLead first ++ (unsigned (word (now (words .entry)) 0) ++ elements (word (now (words .entry)) 0) 4 (labelvaltype (now (pool .entry))) (drop 1 (now (words .entry))))) ⌝ }
+fn put_head(words: &[u32], pool: &[u8], out: &mut [u8], at: usize)
+    requires { ⌜ length (now words) ≡ 2 + word (now words) 1 * 4 ⌝ }
+    requires { ⌜ Rights (now pool) (repeated (word (now words) 1) (Field.Name ∷ Field.Value ∷ [])) (drop 2 (now words)) ⌝ }
+    requires { ⌜ at + length (headBytes (now pool) (now words)) ≤ length (now out) ⌝ }
+    ensures { λ _. ⌜ now (out .exit) ≡ sets (now (out .entry)) at (headBytes (now (pool .entry)) (now (words .entry))) ⌝ }
 {
-    let mut to = at;
-    if first {
-        out[at] = 0x40;
-        to = at + 1;
-    }
-    let next = to + stored_size(numbers::put_unsigned(words[0], to, out));
-    put_fields(words, 1, words[0] as usize, pool, out, next);
+    out[at] = async_byte(words[0]);
+    let n = words[1] as usize;
+    let next = at + 1 + stored_size(numbers::put_unsigned(words[1], at + 1, out));
+    put_fields(words, 2, n, pool, out, next);
 }
 
-fn measure_params(first: bool, words: &[u32], pool: &[u8]) -> Answer
-    ensures { λ r. ⌜ r ≡ measured (paramsShape first) (now (words .entry)) 0 (now (pool .entry)) ⌝ }
+fn measure_head(words: &[u32], pool: &[u8]) -> Answer
+    ensures { λ r. ⌜ r ≡ measured headShape (now (words .entry)) 0 (now (pool .entry)) ⌝ }
 {
-    let size = params_size(first, words, pool);
+    let size = head_size(words, pool);
     if 0 < size {
         return Answer::Size(size);
     }
-    writing::measure_shape(params_shape(first), words, 0, pool)
+    writing::measure_shape(head_shape(), words, 0, pool)
 }
 
-// A count and as many parameters, behind 40 where they are the first of the function.
-pub fn write_params(first: bool, words: &[u32], pool: &[u8], out: &mut [u8], at: usize) -> Answer
-    ensures { λ r. ⌜ left r (now (out .exit)) ≡ writeShape (paramsShape first) (now (words .entry)) 0 (now (pool .entry)) (now (out .entry)) at ⌝ }
+// The head: the first byte, 40 or 43 where a is 1, then a count and as many parameters.
+pub fn write_head(words: &[u32], pool: &[u8], out: &mut [u8], at: usize) -> Answer
+    ensures { λ r. ⌜ left r (now (out .exit)) ≡ writeShape headShape (now (words .entry)) 0 (now (pool .entry)) (now (out .entry)) at ⌝ }
 {
-    match measure_params(first, words, pool) {
+    match measure_head(words, pool) {
         Answer::Size(size) => {
             if writing::fits(size, at, out.len()) {
-                put_params(first, words, pool, out, at);
+                put_head(words, pool, out, at);
                 return Answer::Size(size);
             }
             Answer::Refused(Refusal::Room, size)

@@ -53,6 +53,7 @@ fn main() -> ExitCode {
     if steps > 0 {
         same &= run("steps", || damage::steps(&mut Random::new(seed), steps));
         same &= run("small states", damage::small_states);
+        same &= run("small heads", damage::small_heads);
         same &= run("small rows", damage::small_rows);
         same &= run("largest rows", damage::largest_rows);
         same &= run("wide sections", damage::wide_sections);

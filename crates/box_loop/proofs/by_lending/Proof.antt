@@ -46,21 +46,19 @@ use Rattle.fields.specs.Answers.{left}
 use Rattle.fields.proofs.Answer as N
 use Rattle.fields.proofs.Answer.Laws as N′
 use Rattle.sections.specs.declared.Section.{Section}
-use Rattle.sections.specs.Steps.{Turn, turned, gives, rowing, opening, asyncing, resulting, paraming, abandoning}
+use Rattle.sections.specs.Steps.{Turn, turned, gives, rowing, opening, heading, resulting, abandoning}
 use Rattle.sections.proofs.Section as S
 use Rattle.sections.proofs.Section.Laws as S′
 use Rattle.box_loop.specs.Script.{after, scripted, closed}
-use Rattle.box_loop.proofs.Calls.{Out, RowC, OpenC, MakeAsyncC, ResultC, ParamsC, AbandonC, FinishC, NewC, ShowC, row-pieces, row-to, row-asks, row-says, row-lend, row-give, open-pieces, open-to, open-asks, open-says, open-lend, open-give, make-async-pieces, make-async-to, make-async-asks, make-async-says, make-async-lend, make-async-give, result-pieces, result-to, result-asks, result-says, result-lend, result-give, params-pieces, params-to, params-asks, params-says, params-lend, params-give, abandon-pieces, abandon-to, abandon-asks, abandon-says, abandon-lend, abandon-give, finish-pieces, finish-to, finish-asks, finish-says, finish-lend, finish-give, show-to, show-lend, show-give, new-to, new-says, new-lend, new-give}
+use Rattle.box_loop.proofs.Calls.{Out, RowC, OpenC, ResultC, HeadC, AbandonC, FinishC, NewC, ShowC, row-pieces, row-to, row-asks, row-says, row-lend, row-give, open-pieces, open-to, open-asks, open-says, open-lend, open-give, result-pieces, result-to, result-asks, result-says, result-lend, result-give, head-pieces, head-to, head-asks, head-says, head-lend, head-give, abandon-pieces, abandon-to, abandon-asks, abandon-says, abandon-lend, abandon-give, finish-pieces, finish-to, finish-asks, finish-says, finish-lend, finish-give, show-to, show-lend, show-give, new-to, new-says, new-lend, new-give}
 use Rattle.lent.proofs.row.Symbol as of-row
 use Rattle.lent.proofs.row.Met as row-thm
 use Rattle.lent.proofs.open.Symbol as of-open
 use Rattle.lent.proofs.open.Met as open-thm
-use Rattle.lent.proofs.make_async.Symbol as of-make-async
-use Rattle.lent.proofs.make_async.Met as make-async-thm
 use Rattle.lent.proofs.result.Symbol as of-result
 use Rattle.lent.proofs.result.Met as result-thm
-use Rattle.lent.proofs.params.Symbol as of-params
-use Rattle.lent.proofs.params.Met as params-thm
+use Rattle.lent.proofs.head.Symbol as of-head
+use Rattle.lent.proofs.head.Met as head-thm
 use Rattle.lent.proofs.abandon.Symbol as of-abandon
 use Rattle.lent.proofs.abandon.Met as abandon-thm
 use Rattle.lent.proofs.finish.Symbol as of-finish
@@ -84,7 +82,7 @@ goes-on step x t h r ys e p = e ∙ ap (after step) p
 
 -- the functions that are called meet their contracts
 abbrev Known : {M : Type 1} (𝓤 : URA M) (H : Heap 𝓤) (A : Atoms 𝓤) (mem : Memory → SProp 𝓤) (run : Routine → Fun 𝓤) → Calls 𝓤 H → Type 1
-Known 𝓤 H A mem run C = Triple 𝓤 (C of-row.name) (RowC 𝓤 H A mem run) × Triple 𝓤 (C of-open.name) (OpenC 𝓤 H A mem run) × Triple 𝓤 (C of-make-async.name) (MakeAsyncC 𝓤 H A mem run) × Triple 𝓤 (C of-result.name) (ResultC 𝓤 H A mem run) × Triple 𝓤 (C of-params.name) (ParamsC 𝓤 H A mem run) × Triple 𝓤 (C of-abandon.name) (AbandonC 𝓤 H A mem run) × Triple 𝓤 (C of-finish.name) (FinishC 𝓤 H A mem run) × Triple 𝓤 (C of-new.name) (NewC 𝓤 H A mem run) × Triple 𝓤 (C of-show.name) (ShowC 𝓤 H A mem run)
+Known 𝓤 H A mem run C = Triple 𝓤 (C of-row.name) (RowC 𝓤 H A mem run) × Triple 𝓤 (C of-open.name) (OpenC 𝓤 H A mem run) × Triple 𝓤 (C of-result.name) (ResultC 𝓤 H A mem run) × Triple 𝓤 (C of-head.name) (HeadC 𝓤 H A mem run) × Triple 𝓤 (C of-abandon.name) (AbandonC 𝓤 H A mem run) × Triple 𝓤 (C of-finish.name) (FinishC 𝓤 H A mem run) × Triple 𝓤 (C of-new.name) (NewC 𝓤 H A mem run) × Triple 𝓤 (C of-show.name) (ShowC 𝓤 H A mem run)
 
 module _ {M : Type 1} (𝓤 : URA M) (H : Heap 𝓤) (A : Atoms 𝓤) (W : Given 𝓤 H A) (at-mem : Memory → SProp 𝓤) (run : Routine → Fun 𝓤) (κ₀ κ₁ κ₂ κ₃ κ₄ : Lft) (bounds : AllOutlive 5 (f.signature .outlives) (κ₀, (κ₁, (κ₂, (κ₃, (κ₄, tt)))))) (q₀ q₁ q₂ q₃ q₄ : Share) (b₀ o₀ : ℕ) (γ₀ : GName) (ts₀ : List ℕ) (b₁ o₁ : ℕ) (γ₁ : GName) (ts₁ : List ℕ) (b₂ o₂ : ℕ) (γ₂ : GName) (ts₂ : List ℕ) (b₃ o₃ : ℕ) (γ₃ : GName) (ts₃ : List ℕ) (b₄ o₄ : ℕ) (γ₄ : GName) (ts₄ : List ℕ) where
   abbrev z₀ : List ℕ → RefT (List ℕ)
@@ -175,7 +173,7 @@ module _ {M : Type 1} (𝓤 : URA M) (H : Heap 𝓤) (A : Atoms 𝓤) (W : Given
         move ! (98 ∷ []) $ fsplit ! $ move ! (1 ∷ []) $ fsplit ! $ move ! (1 ∷ []) $ fsplit ! $ move ! (1 ∷ []) $ fsplit ! $ move ! (1 ∷ []) $ fsplit ! $
         -- a fresh section
         use0 W (raw ((NewC 𝓤 H A at-mem run) .pre (new-to 𝓤 H A W at-mem run 7 (lit< tt)))) (new-lend 𝓤 H A W at-mem run 7 (lit< tt)) $
-        calls-at ! fm (NewC 𝓤 H A at-mem run) (known .7) (new-to 𝓤 H A W at-mem run 7 (lit< tt)) (and-then ! (lit ! tt) (no-more !)) (λ w.
+        calls-at ! fm (NewC 𝓤 H A at-mem run) (known .6) (new-to 𝓤 H A W at-mem run 7 (lit< tt)) (and-then ! (lit ! tt) (no-more !)) (λ w.
         use1 W (later (some (λ (h : Section). given (new-says 𝓤 H A W at-mem run 7 (lit< tt) w h) (‵ ftrue)))) (new-give 𝓤 H A W at-mem run 7 (lit< tt) w) $ await ! tt $
         pick ! (λ h₀. learn ! (λ p₀. drop ! $ land ! (from ! (stop !)) (init ! 86 refl (LL.lawful S.the-type S′.the-laws 𝓤 H A W .typed h₀ _ (p₀ .0) .0)) $
         rewrite ! 86 (λ (v : Val). ‵ (fat fullShare S′.mir l₈ 0 v)) (ap only (LL.tells S.the-type S′.the-laws h₀ _ (p₀ .0))) refl $
@@ -193,7 +191,7 @@ module _ {M : Type 1} (𝓤 : URA M) (H : Heap 𝓤) (A : Atoms 𝓤) (W : Given
         split ! $ split ! $ split ! $ split ! $ split ! $ split ! $ forget ! 87 refl $
         assigns ! (of-opd ! (load ! (from ! (stop !)) (look ! 0 refl))) (from ! (stop !)) (init ! 87 refl (LL.lawful S.the-type S′.the-laws 𝓤 H A W .typed (x₁ .1) _ (p₁ .1) .0)) $
         use0 W (raw ((ShowC 𝓤 H A at-mem run) .pre (show-to 𝓤 H A W at-mem run 0 (lit< tt) (x₁ .0) w₁ (x₁ .1)))) (show-lend 𝓤 H A W at-mem run 0 (lit< tt) (x₁ .0) w₁ (x₁ .1) (p₁ .0) (p₁ .1)) $
-        calls-at ! fm (ShowC 𝓤 H A at-mem run) (known .8) (show-to 𝓤 H A W at-mem run 0 (lit< tt) (x₁ .0) w₁ (x₁ .1)) (and-then ! (lit ! tt) (and-then ! (load ! (from ! (stop !)) (look ! 84 refl)) (and-then ! (load ! (from ! (stop !)) (look ! 88 refl)) (no-more !)))) (λ v₁.
+        calls-at ! fm (ShowC 𝓤 H A at-mem run) (known .7) (show-to 𝓤 H A W at-mem run 0 (lit< tt) (x₁ .0) w₁ (x₁ .1)) (and-then ! (lit ! tt) (and-then ! (load ! (from ! (stop !)) (look ! 84 refl)) (and-then ! (load ! (from ! (stop !)) (look ! 88 refl)) (no-more !)))) (λ v₁.
         use1 W (later (given (v₁ ∷ [] ≡ vunit ∷ []) (‵ ftrue))) (show-give 𝓤 H A W at-mem run 0 (lit< tt) (x₁ .0) w₁ (x₁ .1) v₁) $ await ! tt $ learn ! (λ d₁.
         drop ! $ land ! (from ! (stop !)) (init ! 85 refl (subst (λ (v : Val). T (hasTy tyUnit v) × WT v) (sym (ap only d₁)) (tt, tt))) $
         -- row
@@ -210,7 +208,7 @@ module _ {M : Type 1} (𝓤 : URA M) (H : Heap 𝓤) (A : Atoms 𝓤) (W : Given
         split ! $ split ! $ split ! $ forget ! 87 refl $
         assigns ! (of-opd ! (load ! (from ! (stop !)) (look ! 0 refl))) (from ! (stop !)) (init ! 87 refl (LL.lawful S.the-type S′.the-laws 𝓤 H A W .typed (x₂ .1) _ (p₂ .1) .0)) $
         use0 W (raw ((ShowC 𝓤 H A at-mem run) .pre (show-to 𝓤 H A W at-mem run 0 (lit< tt) (x₂ .0) w₂ (x₂ .1)))) (show-lend 𝓤 H A W at-mem run 0 (lit< tt) (x₂ .0) w₂ (x₂ .1) (p₂ .0) (p₂ .1)) $
-        calls-at ! fm (ShowC 𝓤 H A at-mem run) (known .8) (show-to 𝓤 H A W at-mem run 0 (lit< tt) (x₂ .0) w₂ (x₂ .1)) (and-then ! (lit ! tt) (and-then ! (load ! (from ! (stop !)) (look ! 84 refl)) (and-then ! (load ! (from ! (stop !)) (look ! 88 refl)) (no-more !)))) (λ v₂.
+        calls-at ! fm (ShowC 𝓤 H A at-mem run) (known .7) (show-to 𝓤 H A W at-mem run 0 (lit< tt) (x₂ .0) w₂ (x₂ .1)) (and-then ! (lit ! tt) (and-then ! (load ! (from ! (stop !)) (look ! 84 refl)) (and-then ! (load ! (from ! (stop !)) (look ! 88 refl)) (no-more !)))) (λ v₂.
         use1 W (later (given (v₂ ∷ [] ≡ vunit ∷ []) (‵ ftrue))) (show-give 𝓤 H A W at-mem run 0 (lit< tt) (x₂ .0) w₂ (x₂ .1) v₂) $ await ! tt $ learn ! (λ d₂.
         drop ! $ forget ! 85 refl $ land ! (from ! (stop !)) (init ! 85 refl (subst (λ (v : Val). T (hasTy tyUnit v) × WT v) (sym (ap only d₂)) (tt, tt))) $
         -- open
@@ -227,25 +225,25 @@ module _ {M : Type 1} (𝓤 : URA M) (H : Heap 𝓤) (A : Atoms 𝓤) (W : Given
         forget ! 87 refl $
         assigns ! (of-opd ! (load ! (from ! (stop !)) (look ! 0 refl))) (from ! (stop !)) (init ! 87 refl (LL.lawful S.the-type S′.the-laws 𝓤 H A W .typed (x₃ .1) _ (p₃ .1) .0)) $
         use0 W (raw ((ShowC 𝓤 H A at-mem run) .pre (show-to 𝓤 H A W at-mem run 1 (lit< tt) (x₃ .0) w₃ (x₃ .1)))) (show-lend 𝓤 H A W at-mem run 1 (lit< tt) (x₃ .0) w₃ (x₃ .1) (p₃ .0) (p₃ .1)) $
-        calls-at ! fm (ShowC 𝓤 H A at-mem run) (known .8) (show-to 𝓤 H A W at-mem run 1 (lit< tt) (x₃ .0) w₃ (x₃ .1)) (and-then ! (lit ! tt) (and-then ! (load ! (from ! (stop !)) (look ! 84 refl)) (and-then ! (load ! (from ! (stop !)) (look ! 88 refl)) (no-more !)))) (λ v₃.
+        calls-at ! fm (ShowC 𝓤 H A at-mem run) (known .7) (show-to 𝓤 H A W at-mem run 1 (lit< tt) (x₃ .0) w₃ (x₃ .1)) (and-then ! (lit ! tt) (and-then ! (load ! (from ! (stop !)) (look ! 84 refl)) (and-then ! (load ! (from ! (stop !)) (look ! 88 refl)) (no-more !)))) (λ v₃.
         use1 W (later (given (v₃ ∷ [] ≡ vunit ∷ []) (‵ ftrue))) (show-give 𝓤 H A W at-mem run 1 (lit< tt) (x₃ .0) w₃ (x₃ .1) v₃) $ await ! tt $ learn ! (λ d₃.
         drop ! $ forget ! 85 refl $ land ! (from ! (stop !)) (init ! 85 refl (subst (λ (v : Val). T (hasTy tyUnit v) × WT v) (sym (ap only d₃)) (tt, tt))) $
-        -- make_async
+        -- open
         assigns ! (addr ! (from ! (stop !))) (from ! (stop !)) (init ! 63 refl (tt, tt)) $
         assigns ! (addr ! (from ! (fld ! refl (hop ! (look-in ! 94 (sub ! 0 refl (whole !))) (stop !))))) (from ! (stop !)) (init ! 61 refl (tt, tt)) $
         assigns ! (agg ! (and-then ! (load ! (from ! (stop !)) (look ! 61 refl)) (and-then ! (load ! (from ! (fld ! refl (stop !))) (look-in ! 94 (sub ! 1 refl (whole !)))) (no-more !)))) (from ! (stop !)) (init ! 59 refl (tt, (tt, (record { fits = room₃ .0 }, tt)))) $
         join ! $ join ! $
-        use1 W (later (some (make-async-asks 𝓤 H A W at-mem run l₆ (named 3) κ₃ q₃ γ₃ b₃ o₃ (length ts₃) room₃ 1 (lit< tt) (x₃ .1) (x₃ .2)))) (make-async-lend 𝓤 H A W at-mem run l₆ (named 3) κ₃ q₃ γ₃ b₃ o₃ (length ts₃) room₃ 1 (lit< tt) (x₃ .1) (x₃ .2) (p₃ .1) (p₃ .2)) $ await ! tt $
+        use1 W (later (some (open-asks 𝓤 H A W at-mem run l₆ (named 3) κ₃ q₃ γ₃ b₃ o₃ (length ts₃) room₃ (x₃ .1) (x₃ .2)))) (open-lend 𝓤 H A W at-mem run l₆ (named 3) κ₃ q₃ γ₃ b₃ o₃ (length ts₃) room₃ (x₃ .1) (x₃ .2) (p₃ .1) (p₃ .2)) $ await ! tt $
         pick ! (λ g₄. split ! $
-        calls-at ! fm (MakeAsyncC 𝓤 H A at-mem run) (known .2) (make-async-to 𝓤 H A W at-mem run l₆ (named 3) κ₃ q₃ γ₃ b₃ o₃ (length ts₃) room₃ 1 (lit< tt) (x₃ .1) (x₃ .2) g₄) (and-then ! (load ! (from ! (stop !)) (look ! 62 refl)) (and-then ! (lit ! tt) (and-then ! (load ! (from ! (stop !)) (look ! 58 refl)) (no-more !)))) (λ w₄.
-        use2 W (later (some (λ (x : Out). given (make-async-says 𝓤 H A W at-mem run l₆ (named 3) κ₃ q₃ γ₃ b₃ o₃ (length ts₃) room₃ 1 (lit< tt) (x₃ .1) (x₃ .2) w₄ x) (make-async-pieces 𝓤 H A W at-mem run l₆ (named 3) κ₃ q₃ γ₃ b₃ o₃ (length ts₃) room₃ 1 (lit< tt) (x .1) (x .2))))) (make-async-give 𝓤 H A W at-mem run l₆ (named 3) κ₃ q₃ γ₃ b₃ o₃ (length ts₃) room₃ 1 (lit< tt) (x₃ .1) (x₃ .2) (p₃ .2) g₄ w₄) $ await ! tt $
+        calls-at ! fm (OpenC 𝓤 H A at-mem run) (known .1) (open-to 𝓤 H A W at-mem run l₆ (named 3) κ₃ q₃ γ₃ b₃ o₃ (length ts₃) room₃ (x₃ .1) (x₃ .2) g₄) (and-then ! (load ! (from ! (stop !)) (look ! 62 refl)) (and-then ! (load ! (from ! (stop !)) (look ! 58 refl)) (no-more !))) (λ w₄.
+        use2 W (later (some (λ (x : Out). given (open-says 𝓤 H A W at-mem run l₆ (named 3) κ₃ q₃ γ₃ b₃ o₃ (length ts₃) room₃ (x₃ .1) (x₃ .2) w₄ x) (open-pieces 𝓤 H A W at-mem run l₆ (named 3) κ₃ q₃ γ₃ b₃ o₃ (length ts₃) room₃ (x .1) (x .2))))) (open-give 𝓤 H A W at-mem run l₆ (named 3) κ₃ q₃ γ₃ b₃ o₃ (length ts₃) room₃ (x₃ .1) (x₃ .2) (p₃ .2) g₄ w₄) $ await ! tt $
         pick ! (λ x₄. learn ! (λ p₄. forget ! 81 refl $
         land ! (from ! (stop !)) (init ! 81 refl (EL.lawful N.the-type N′.the-laws 𝓤 H A W tt .typed (x₄ .0) _ (p₄ .0) .0)) $ split ! $ split ! $
         forget ! 87 refl $
         assigns ! (of-opd ! (load ! (from ! (stop !)) (look ! 0 refl))) (from ! (stop !)) (init ! 87 refl (LL.lawful S.the-type S′.the-laws 𝓤 H A W .typed (x₄ .1) _ (p₄ .1) .0)) $
-        use0 W (raw ((ShowC 𝓤 H A at-mem run) .pre (show-to 𝓤 H A W at-mem run 2 (lit< tt) (x₄ .0) w₄ (x₄ .1)))) (show-lend 𝓤 H A W at-mem run 2 (lit< tt) (x₄ .0) w₄ (x₄ .1) (p₄ .0) (p₄ .1)) $
-        calls-at ! fm (ShowC 𝓤 H A at-mem run) (known .8) (show-to 𝓤 H A W at-mem run 2 (lit< tt) (x₄ .0) w₄ (x₄ .1)) (and-then ! (lit ! tt) (and-then ! (load ! (from ! (stop !)) (look ! 84 refl)) (and-then ! (load ! (from ! (stop !)) (look ! 88 refl)) (no-more !)))) (λ v₄.
-        use1 W (later (given (v₄ ∷ [] ≡ vunit ∷ []) (‵ ftrue))) (show-give 𝓤 H A W at-mem run 2 (lit< tt) (x₄ .0) w₄ (x₄ .1) v₄) $ await ! tt $ learn ! (λ d₄.
+        use0 W (raw ((ShowC 𝓤 H A at-mem run) .pre (show-to 𝓤 H A W at-mem run 1 (lit< tt) (x₄ .0) w₄ (x₄ .1)))) (show-lend 𝓤 H A W at-mem run 1 (lit< tt) (x₄ .0) w₄ (x₄ .1) (p₄ .0) (p₄ .1)) $
+        calls-at ! fm (ShowC 𝓤 H A at-mem run) (known .7) (show-to 𝓤 H A W at-mem run 1 (lit< tt) (x₄ .0) w₄ (x₄ .1)) (and-then ! (lit ! tt) (and-then ! (load ! (from ! (stop !)) (look ! 84 refl)) (and-then ! (load ! (from ! (stop !)) (look ! 88 refl)) (no-more !)))) (λ v₄.
+        use1 W (later (given (v₄ ∷ [] ≡ vunit ∷ []) (‵ ftrue))) (show-give 𝓤 H A W at-mem run 1 (lit< tt) (x₄ .0) w₄ (x₄ .1) v₄) $ await ! tt $ learn ! (λ d₄.
         drop ! $ forget ! 85 refl $ land ! (from ! (stop !)) (init ! 85 refl (subst (λ (v : Val). T (hasTy tyUnit v) × WT v) (sym (ap only d₄)) (tt, tt))) $
         -- result
         assigns ! (addr ! (from ! (stop !))) (from ! (stop !)) (init ! 57 refl (tt, tt)) $
@@ -254,32 +252,32 @@ module _ {M : Type 1} (𝓤 : URA M) (H : Heap 𝓤) (A : Atoms 𝓤) (W : Given
         join ! $ join ! $
         use1 W (later (some (result-asks 𝓤 H A W at-mem run l₆ (named 3) κ₃ q₃ γ₃ b₃ o₃ (length ts₃) room₃ 0 (lit< tt) 12 (lit< tt) (x₄ .1) (x₄ .2)))) (result-lend 𝓤 H A W at-mem run l₆ (named 3) κ₃ q₃ γ₃ b₃ o₃ (length ts₃) room₃ 0 (lit< tt) 12 (lit< tt) (x₄ .1) (x₄ .2) (p₄ .1) (p₄ .2)) $ await ! tt $
         pick ! (λ g₅. split ! $
-        calls-at ! fm (ResultC 𝓤 H A at-mem run) (known .3) (result-to 𝓤 H A W at-mem run l₆ (named 3) κ₃ q₃ γ₃ b₃ o₃ (length ts₃) room₃ 0 (lit< tt) 12 (lit< tt) (x₄ .1) (x₄ .2) g₅) (and-then ! (load ! (from ! (stop !)) (look ! 56 refl)) (and-then ! (lit ! tt) (and-then ! (lit ! tt) (and-then ! (load ! (from ! (stop !)) (look ! 52 refl)) (no-more !))))) (λ w₅.
+        calls-at ! fm (ResultC 𝓤 H A at-mem run) (known .2) (result-to 𝓤 H A W at-mem run l₆ (named 3) κ₃ q₃ γ₃ b₃ o₃ (length ts₃) room₃ 0 (lit< tt) 12 (lit< tt) (x₄ .1) (x₄ .2) g₅) (and-then ! (load ! (from ! (stop !)) (look ! 56 refl)) (and-then ! (lit ! tt) (and-then ! (lit ! tt) (and-then ! (load ! (from ! (stop !)) (look ! 52 refl)) (no-more !))))) (λ w₅.
         use2 W (later (some (λ (x : Out). given (result-says 𝓤 H A W at-mem run l₆ (named 3) κ₃ q₃ γ₃ b₃ o₃ (length ts₃) room₃ 0 (lit< tt) 12 (lit< tt) (x₄ .1) (x₄ .2) w₅ x) (result-pieces 𝓤 H A W at-mem run l₆ (named 3) κ₃ q₃ γ₃ b₃ o₃ (length ts₃) room₃ 0 (lit< tt) 12 (lit< tt) (x .1) (x .2))))) (result-give 𝓤 H A W at-mem run l₆ (named 3) κ₃ q₃ γ₃ b₃ o₃ (length ts₃) room₃ 0 (lit< tt) 12 (lit< tt) (x₄ .1) (x₄ .2) (p₄ .2) g₅ w₅) $ await ! tt $
         pick ! (λ x₅. learn ! (λ p₅. forget ! 81 refl $
         land ! (from ! (stop !)) (init ! 81 refl (EL.lawful N.the-type N′.the-laws 𝓤 H A W tt .typed (x₅ .0) _ (p₅ .0) .0)) $ split ! $ split ! $
         forget ! 87 refl $
         assigns ! (of-opd ! (load ! (from ! (stop !)) (look ! 0 refl))) (from ! (stop !)) (init ! 87 refl (LL.lawful S.the-type S′.the-laws 𝓤 H A W .typed (x₅ .1) _ (p₅ .1) .0)) $
-        use0 W (raw ((ShowC 𝓤 H A at-mem run) .pre (show-to 𝓤 H A W at-mem run 4 (lit< tt) (x₅ .0) w₅ (x₅ .1)))) (show-lend 𝓤 H A W at-mem run 4 (lit< tt) (x₅ .0) w₅ (x₅ .1) (p₅ .0) (p₅ .1)) $
-        calls-at ! fm (ShowC 𝓤 H A at-mem run) (known .8) (show-to 𝓤 H A W at-mem run 4 (lit< tt) (x₅ .0) w₅ (x₅ .1)) (and-then ! (lit ! tt) (and-then ! (load ! (from ! (stop !)) (look ! 84 refl)) (and-then ! (load ! (from ! (stop !)) (look ! 88 refl)) (no-more !)))) (λ v₅.
-        use1 W (later (given (v₅ ∷ [] ≡ vunit ∷ []) (‵ ftrue))) (show-give 𝓤 H A W at-mem run 4 (lit< tt) (x₅ .0) w₅ (x₅ .1) v₅) $ await ! tt $ learn ! (λ d₅.
+        use0 W (raw ((ShowC 𝓤 H A at-mem run) .pre (show-to 𝓤 H A W at-mem run 3 (lit< tt) (x₅ .0) w₅ (x₅ .1)))) (show-lend 𝓤 H A W at-mem run 3 (lit< tt) (x₅ .0) w₅ (x₅ .1) (p₅ .0) (p₅ .1)) $
+        calls-at ! fm (ShowC 𝓤 H A at-mem run) (known .7) (show-to 𝓤 H A W at-mem run 3 (lit< tt) (x₅ .0) w₅ (x₅ .1)) (and-then ! (lit ! tt) (and-then ! (load ! (from ! (stop !)) (look ! 84 refl)) (and-then ! (load ! (from ! (stop !)) (look ! 88 refl)) (no-more !)))) (λ v₅.
+        use1 W (later (given (v₅ ∷ [] ≡ vunit ∷ []) (‵ ftrue))) (show-give 𝓤 H A W at-mem run 3 (lit< tt) (x₅ .0) w₅ (x₅ .1) v₅) $ await ! tt $ learn ! (λ d₅.
         drop ! $ forget ! 85 refl $ land ! (from ! (stop !)) (init ! 85 refl (subst (λ (v : Val). T (hasTy tyUnit v) × WT v) (sym (ap only d₅)) (tt, tt))) $
-        -- params
+        -- head
         assigns ! (addr ! (from ! (stop !))) (from ! (stop !)) (init ! 51 refl (tt, tt)) $
         assigns ! (addr ! (from ! (fld ! refl (hop ! (look-in ! 94 (sub ! 0 refl (whole !))) (stop !))))) (from ! (stop !)) (init ! 49 refl (tt, tt)) $
         assigns ! (agg ! (and-then ! (load ! (from ! (stop !)) (look ! 49 refl)) (and-then ! (load ! (from ! (fld ! refl (stop !))) (look-in ! 94 (sub ! 1 refl (whole !)))) (no-more !)))) (from ! (stop !)) (init ! 47 refl (tt, (tt, (record { fits = room₃ .0 }, tt)))) $
         join ! $ join ! $ join ! $ join ! $ join ! $ join ! $
-        use1 W (later (some (params-asks 𝓤 H A W at-mem run l₆ (named 3) κ₃ q₃ γ₃ b₃ o₃ (length ts₃) room₃ (named 1) κ₁ q₁ γ₁ b₁ o₁ ts₁ (named 2) κ₂ q₂ γ₂ b₂ o₂ ts₂ (x₅ .1) (x₅ .2)))) (params-lend 𝓤 H A W at-mem run l₆ (named 3) κ₃ q₃ γ₃ b₃ o₃ (length ts₃) room₃ (named 1) κ₁ q₁ γ₁ b₁ o₁ ts₁ (named 2) κ₂ q₂ γ₂ b₂ o₂ ts₂ (x₅ .1) (x₅ .2) (p₅ .1) (p₅ .2)) $ await ! tt $
+        use1 W (later (some (head-asks 𝓤 H A W at-mem run l₆ (named 3) κ₃ q₃ γ₃ b₃ o₃ (length ts₃) room₃ (named 1) κ₁ q₁ γ₁ b₁ o₁ ts₁ (named 2) κ₂ q₂ γ₂ b₂ o₂ ts₂ (x₅ .1) (x₅ .2)))) (head-lend 𝓤 H A W at-mem run l₆ (named 3) κ₃ q₃ γ₃ b₃ o₃ (length ts₃) room₃ (named 1) κ₁ q₁ γ₁ b₁ o₁ ts₁ (named 2) κ₂ q₂ γ₂ b₂ o₂ ts₂ (x₅ .1) (x₅ .2) (p₅ .1) (p₅ .2)) $ await ! tt $
         pick ! (λ g₆. split ! $
-        calls-at ! fm (ParamsC 𝓤 H A at-mem run) (known .4) (params-to 𝓤 H A W at-mem run l₆ (named 3) κ₃ q₃ γ₃ b₃ o₃ (length ts₃) room₃ (named 1) κ₁ q₁ γ₁ b₁ o₁ ts₁ (named 2) κ₂ q₂ γ₂ b₂ o₂ ts₂ (x₅ .1) (x₅ .2) g₆) (and-then ! (load ! (from ! (stop !)) (look ! 46 refl)) (and-then ! (load ! (from ! (stop !)) (look ! 93 refl)) (and-then ! (load ! (from ! (stop !)) (look ! 91 refl)) (and-then ! (load ! (from ! (stop !)) (look ! 42 refl)) (no-more !))))) (λ w₆.
-        use2 W (later (some (λ (x : Out). given (params-says 𝓤 H A W at-mem run l₆ (named 3) κ₃ q₃ γ₃ b₃ o₃ (length ts₃) room₃ (named 1) κ₁ q₁ γ₁ b₁ o₁ ts₁ (named 2) κ₂ q₂ γ₂ b₂ o₂ ts₂ (x₅ .1) (x₅ .2) w₆ x) (params-pieces 𝓤 H A W at-mem run l₆ (named 3) κ₃ q₃ γ₃ b₃ o₃ (length ts₃) room₃ (named 1) κ₁ q₁ γ₁ b₁ o₁ ts₁ (named 2) κ₂ q₂ γ₂ b₂ o₂ ts₂ (x .1) (x .2))))) (params-give 𝓤 H A W at-mem run l₆ (named 3) κ₃ q₃ γ₃ b₃ o₃ (length ts₃) room₃ (named 1) κ₁ q₁ γ₁ b₁ o₁ ts₁ (named 2) κ₂ q₂ γ₂ b₂ o₂ ts₂ (x₅ .1) (x₅ .2) (p₅ .2) g₆ w₆) $ await ! tt $
+        calls-at ! fm (HeadC 𝓤 H A at-mem run) (known .3) (head-to 𝓤 H A W at-mem run l₆ (named 3) κ₃ q₃ γ₃ b₃ o₃ (length ts₃) room₃ (named 1) κ₁ q₁ γ₁ b₁ o₁ ts₁ (named 2) κ₂ q₂ γ₂ b₂ o₂ ts₂ (x₅ .1) (x₅ .2) g₆) (and-then ! (load ! (from ! (stop !)) (look ! 46 refl)) (and-then ! (load ! (from ! (stop !)) (look ! 93 refl)) (and-then ! (load ! (from ! (stop !)) (look ! 91 refl)) (and-then ! (load ! (from ! (stop !)) (look ! 42 refl)) (no-more !))))) (λ w₆.
+        use2 W (later (some (λ (x : Out). given (head-says 𝓤 H A W at-mem run l₆ (named 3) κ₃ q₃ γ₃ b₃ o₃ (length ts₃) room₃ (named 1) κ₁ q₁ γ₁ b₁ o₁ ts₁ (named 2) κ₂ q₂ γ₂ b₂ o₂ ts₂ (x₅ .1) (x₅ .2) w₆ x) (head-pieces 𝓤 H A W at-mem run l₆ (named 3) κ₃ q₃ γ₃ b₃ o₃ (length ts₃) room₃ (named 1) κ₁ q₁ γ₁ b₁ o₁ ts₁ (named 2) κ₂ q₂ γ₂ b₂ o₂ ts₂ (x .1) (x .2))))) (head-give 𝓤 H A W at-mem run l₆ (named 3) κ₃ q₃ γ₃ b₃ o₃ (length ts₃) room₃ (named 1) κ₁ q₁ γ₁ b₁ o₁ ts₁ (named 2) κ₂ q₂ γ₂ b₂ o₂ ts₂ (x₅ .1) (x₅ .2) (p₅ .2) g₆ w₆) $ await ! tt $
         pick ! (λ x₆. learn ! (λ p₆. forget ! 77 refl $
         land ! (from ! (stop !)) (init ! 77 refl (EL.lawful N.the-type N′.the-laws 𝓤 H A W tt .typed (x₆ .0) _ (p₆ .0) .0)) $ split ! $ split ! $ split ! $
         split ! $ split ! $ split ! $ forget ! 87 refl $
         assigns ! (of-opd ! (load ! (from ! (stop !)) (look ! 0 refl))) (from ! (stop !)) (init ! 87 refl (LL.lawful S.the-type S′.the-laws 𝓤 H A W .typed (x₆ .1) _ (p₆ .1) .0)) $
-        use0 W (raw ((ShowC 𝓤 H A at-mem run) .pre (show-to 𝓤 H A W at-mem run 3 (lit< tt) (x₆ .0) w₆ (x₆ .1)))) (show-lend 𝓤 H A W at-mem run 3 (lit< tt) (x₆ .0) w₆ (x₆ .1) (p₆ .0) (p₆ .1)) $
-        calls-at ! fm (ShowC 𝓤 H A at-mem run) (known .8) (show-to 𝓤 H A W at-mem run 3 (lit< tt) (x₆ .0) w₆ (x₆ .1)) (and-then ! (lit ! tt) (and-then ! (load ! (from ! (stop !)) (look ! 84 refl)) (and-then ! (load ! (from ! (stop !)) (look ! 88 refl)) (no-more !)))) (λ v₆.
-        use1 W (later (given (v₆ ∷ [] ≡ vunit ∷ []) (‵ ftrue))) (show-give 𝓤 H A W at-mem run 3 (lit< tt) (x₆ .0) w₆ (x₆ .1) v₆) $ await ! tt $ learn ! (λ d₆.
+        use0 W (raw ((ShowC 𝓤 H A at-mem run) .pre (show-to 𝓤 H A W at-mem run 2 (lit< tt) (x₆ .0) w₆ (x₆ .1)))) (show-lend 𝓤 H A W at-mem run 2 (lit< tt) (x₆ .0) w₆ (x₆ .1) (p₆ .0) (p₆ .1)) $
+        calls-at ! fm (ShowC 𝓤 H A at-mem run) (known .7) (show-to 𝓤 H A W at-mem run 2 (lit< tt) (x₆ .0) w₆ (x₆ .1)) (and-then ! (lit ! tt) (and-then ! (load ! (from ! (stop !)) (look ! 84 refl)) (and-then ! (load ! (from ! (stop !)) (look ! 88 refl)) (no-more !)))) (λ v₆.
+        use1 W (later (given (v₆ ∷ [] ≡ vunit ∷ []) (‵ ftrue))) (show-give 𝓤 H A W at-mem run 2 (lit< tt) (x₆ .0) w₆ (x₆ .1) v₆) $ await ! tt $ learn ! (λ d₆.
         drop ! $ forget ! 85 refl $ land ! (from ! (stop !)) (init ! 85 refl (subst (λ (v : Val). T (hasTy tyUnit v) × WT v) (sym (ap only d₆)) (tt, tt))) $
         -- result
         assigns ! (addr ! (from ! (stop !))) (from ! (stop !)) (init ! 45 refl (tt, tt)) $
@@ -288,15 +286,15 @@ module _ {M : Type 1} (𝓤 : URA M) (H : Heap 𝓤) (A : Atoms 𝓤) (W : Given
         join ! $ join ! $
         use1 W (later (some (result-asks 𝓤 H A W at-mem run l₆ (named 3) κ₃ q₃ γ₃ b₃ o₃ (length ts₃) room₃ 0 (lit< tt) 12 (lit< tt) (x₆ .1) (x₆ .2)))) (result-lend 𝓤 H A W at-mem run l₆ (named 3) κ₃ q₃ γ₃ b₃ o₃ (length ts₃) room₃ 0 (lit< tt) 12 (lit< tt) (x₆ .1) (x₆ .2) (p₆ .1) (p₆ .2)) $ await ! tt $
         pick ! (λ g₇. split ! $
-        calls-at ! fm (ResultC 𝓤 H A at-mem run) (known .3) (result-to 𝓤 H A W at-mem run l₆ (named 3) κ₃ q₃ γ₃ b₃ o₃ (length ts₃) room₃ 0 (lit< tt) 12 (lit< tt) (x₆ .1) (x₆ .2) g₇) (and-then ! (load ! (from ! (stop !)) (look ! 44 refl)) (and-then ! (lit ! tt) (and-then ! (lit ! tt) (and-then ! (load ! (from ! (stop !)) (look ! 40 refl)) (no-more !))))) (λ w₇.
+        calls-at ! fm (ResultC 𝓤 H A at-mem run) (known .2) (result-to 𝓤 H A W at-mem run l₆ (named 3) κ₃ q₃ γ₃ b₃ o₃ (length ts₃) room₃ 0 (lit< tt) 12 (lit< tt) (x₆ .1) (x₆ .2) g₇) (and-then ! (load ! (from ! (stop !)) (look ! 44 refl)) (and-then ! (lit ! tt) (and-then ! (lit ! tt) (and-then ! (load ! (from ! (stop !)) (look ! 40 refl)) (no-more !))))) (λ w₇.
         use2 W (later (some (λ (x : Out). given (result-says 𝓤 H A W at-mem run l₆ (named 3) κ₃ q₃ γ₃ b₃ o₃ (length ts₃) room₃ 0 (lit< tt) 12 (lit< tt) (x₆ .1) (x₆ .2) w₇ x) (result-pieces 𝓤 H A W at-mem run l₆ (named 3) κ₃ q₃ γ₃ b₃ o₃ (length ts₃) room₃ 0 (lit< tt) 12 (lit< tt) (x .1) (x .2))))) (result-give 𝓤 H A W at-mem run l₆ (named 3) κ₃ q₃ γ₃ b₃ o₃ (length ts₃) room₃ 0 (lit< tt) 12 (lit< tt) (x₆ .1) (x₆ .2) (p₆ .2) g₇ w₇) $ await ! tt $
         pick ! (λ x₇. learn ! (λ p₇. forget ! 81 refl $
         land ! (from ! (stop !)) (init ! 81 refl (EL.lawful N.the-type N′.the-laws 𝓤 H A W tt .typed (x₇ .0) _ (p₇ .0) .0)) $ split ! $ split ! $
         forget ! 87 refl $
         assigns ! (of-opd ! (load ! (from ! (stop !)) (look ! 0 refl))) (from ! (stop !)) (init ! 87 refl (LL.lawful S.the-type S′.the-laws 𝓤 H A W .typed (x₇ .1) _ (p₇ .1) .0)) $
-        use0 W (raw ((ShowC 𝓤 H A at-mem run) .pre (show-to 𝓤 H A W at-mem run 4 (lit< tt) (x₇ .0) w₇ (x₇ .1)))) (show-lend 𝓤 H A W at-mem run 4 (lit< tt) (x₇ .0) w₇ (x₇ .1) (p₇ .0) (p₇ .1)) $
-        calls-at ! fm (ShowC 𝓤 H A at-mem run) (known .8) (show-to 𝓤 H A W at-mem run 4 (lit< tt) (x₇ .0) w₇ (x₇ .1)) (and-then ! (lit ! tt) (and-then ! (load ! (from ! (stop !)) (look ! 84 refl)) (and-then ! (load ! (from ! (stop !)) (look ! 88 refl)) (no-more !)))) (λ v₇.
-        use1 W (later (given (v₇ ∷ [] ≡ vunit ∷ []) (‵ ftrue))) (show-give 𝓤 H A W at-mem run 4 (lit< tt) (x₇ .0) w₇ (x₇ .1) v₇) $ await ! tt $ learn ! (λ d₇.
+        use0 W (raw ((ShowC 𝓤 H A at-mem run) .pre (show-to 𝓤 H A W at-mem run 3 (lit< tt) (x₇ .0) w₇ (x₇ .1)))) (show-lend 𝓤 H A W at-mem run 3 (lit< tt) (x₇ .0) w₇ (x₇ .1) (p₇ .0) (p₇ .1)) $
+        calls-at ! fm (ShowC 𝓤 H A at-mem run) (known .7) (show-to 𝓤 H A W at-mem run 3 (lit< tt) (x₇ .0) w₇ (x₇ .1)) (and-then ! (lit ! tt) (and-then ! (load ! (from ! (stop !)) (look ! 84 refl)) (and-then ! (load ! (from ! (stop !)) (look ! 88 refl)) (no-more !)))) (λ v₇.
+        use1 W (later (given (v₇ ∷ [] ≡ vunit ∷ []) (‵ ftrue))) (show-give 𝓤 H A W at-mem run 3 (lit< tt) (x₇ .0) w₇ (x₇ .1) v₇) $ await ! tt $ learn ! (λ d₇.
         drop ! $ forget ! 85 refl $ land ! (from ! (stop !)) (init ! 85 refl (subst (λ (v : Val). T (hasTy tyUnit v) × WT v) (sym (ap only d₇)) (tt, tt))) $
         -- open
         assigns ! (addr ! (from ! (stop !))) (from ! (stop !)) (init ! 39 refl (tt, tt)) $
@@ -312,25 +310,25 @@ module _ {M : Type 1} (𝓤 : URA M) (H : Heap 𝓤) (A : Atoms 𝓤) (W : Given
         forget ! 87 refl $
         assigns ! (of-opd ! (load ! (from ! (stop !)) (look ! 0 refl))) (from ! (stop !)) (init ! 87 refl (LL.lawful S.the-type S′.the-laws 𝓤 H A W .typed (x₈ .1) _ (p₈ .1) .0)) $
         use0 W (raw ((ShowC 𝓤 H A at-mem run) .pre (show-to 𝓤 H A W at-mem run 1 (lit< tt) (x₈ .0) w₈ (x₈ .1)))) (show-lend 𝓤 H A W at-mem run 1 (lit< tt) (x₈ .0) w₈ (x₈ .1) (p₈ .0) (p₈ .1)) $
-        calls-at ! fm (ShowC 𝓤 H A at-mem run) (known .8) (show-to 𝓤 H A W at-mem run 1 (lit< tt) (x₈ .0) w₈ (x₈ .1)) (and-then ! (lit ! tt) (and-then ! (load ! (from ! (stop !)) (look ! 84 refl)) (and-then ! (load ! (from ! (stop !)) (look ! 88 refl)) (no-more !)))) (λ v₈.
+        calls-at ! fm (ShowC 𝓤 H A at-mem run) (known .7) (show-to 𝓤 H A W at-mem run 1 (lit< tt) (x₈ .0) w₈ (x₈ .1)) (and-then ! (lit ! tt) (and-then ! (load ! (from ! (stop !)) (look ! 84 refl)) (and-then ! (load ! (from ! (stop !)) (look ! 88 refl)) (no-more !)))) (λ v₈.
         use1 W (later (given (v₈ ∷ [] ≡ vunit ∷ []) (‵ ftrue))) (show-give 𝓤 H A W at-mem run 1 (lit< tt) (x₈ .0) w₈ (x₈ .1) v₈) $ await ! tt $ learn ! (λ d₈.
         drop ! $ forget ! 85 refl $ land ! (from ! (stop !)) (init ! 85 refl (subst (λ (v : Val). T (hasTy tyUnit v) × WT v) (sym (ap only d₈)) (tt, tt))) $
-        -- params
+        -- head
         assigns ! (addr ! (from ! (stop !))) (from ! (stop !)) (init ! 33 refl (tt, tt)) $
         assigns ! (addr ! (from ! (fld ! refl (hop ! (look-in ! 94 (sub ! 0 refl (whole !))) (stop !))))) (from ! (stop !)) (init ! 31 refl (tt, tt)) $
         assigns ! (agg ! (and-then ! (load ! (from ! (stop !)) (look ! 31 refl)) (and-then ! (load ! (from ! (fld ! refl (stop !))) (look-in ! 94 (sub ! 1 refl (whole !)))) (no-more !)))) (from ! (stop !)) (init ! 29 refl (tt, (tt, (record { fits = room₃ .0 }, tt)))) $
         join ! $ join ! $ join ! $ join ! $ join ! $ join ! $
-        use1 W (later (some (params-asks 𝓤 H A W at-mem run l₆ (named 3) κ₃ q₃ γ₃ b₃ o₃ (length ts₃) room₃ (named 1) κ₁ q₁ γ₁ b₁ o₁ ts₁ (named 2) κ₂ q₂ γ₂ b₂ o₂ ts₂ (x₈ .1) (x₈ .2)))) (params-lend 𝓤 H A W at-mem run l₆ (named 3) κ₃ q₃ γ₃ b₃ o₃ (length ts₃) room₃ (named 1) κ₁ q₁ γ₁ b₁ o₁ ts₁ (named 2) κ₂ q₂ γ₂ b₂ o₂ ts₂ (x₈ .1) (x₈ .2) (p₈ .1) (p₈ .2)) $ await ! tt $
+        use1 W (later (some (head-asks 𝓤 H A W at-mem run l₆ (named 3) κ₃ q₃ γ₃ b₃ o₃ (length ts₃) room₃ (named 1) κ₁ q₁ γ₁ b₁ o₁ ts₁ (named 2) κ₂ q₂ γ₂ b₂ o₂ ts₂ (x₈ .1) (x₈ .2)))) (head-lend 𝓤 H A W at-mem run l₆ (named 3) κ₃ q₃ γ₃ b₃ o₃ (length ts₃) room₃ (named 1) κ₁ q₁ γ₁ b₁ o₁ ts₁ (named 2) κ₂ q₂ γ₂ b₂ o₂ ts₂ (x₈ .1) (x₈ .2) (p₈ .1) (p₈ .2)) $ await ! tt $
         pick ! (λ g₉. split ! $
-        calls-at ! fm (ParamsC 𝓤 H A at-mem run) (known .4) (params-to 𝓤 H A W at-mem run l₆ (named 3) κ₃ q₃ γ₃ b₃ o₃ (length ts₃) room₃ (named 1) κ₁ q₁ γ₁ b₁ o₁ ts₁ (named 2) κ₂ q₂ γ₂ b₂ o₂ ts₂ (x₈ .1) (x₈ .2) g₉) (and-then ! (load ! (from ! (stop !)) (look ! 28 refl)) (and-then ! (load ! (from ! (stop !)) (look ! 93 refl)) (and-then ! (load ! (from ! (stop !)) (look ! 91 refl)) (and-then ! (load ! (from ! (stop !)) (look ! 24 refl)) (no-more !))))) (λ w₉.
-        use2 W (later (some (λ (x : Out). given (params-says 𝓤 H A W at-mem run l₆ (named 3) κ₃ q₃ γ₃ b₃ o₃ (length ts₃) room₃ (named 1) κ₁ q₁ γ₁ b₁ o₁ ts₁ (named 2) κ₂ q₂ γ₂ b₂ o₂ ts₂ (x₈ .1) (x₈ .2) w₉ x) (params-pieces 𝓤 H A W at-mem run l₆ (named 3) κ₃ q₃ γ₃ b₃ o₃ (length ts₃) room₃ (named 1) κ₁ q₁ γ₁ b₁ o₁ ts₁ (named 2) κ₂ q₂ γ₂ b₂ o₂ ts₂ (x .1) (x .2))))) (params-give 𝓤 H A W at-mem run l₆ (named 3) κ₃ q₃ γ₃ b₃ o₃ (length ts₃) room₃ (named 1) κ₁ q₁ γ₁ b₁ o₁ ts₁ (named 2) κ₂ q₂ γ₂ b₂ o₂ ts₂ (x₈ .1) (x₈ .2) (p₈ .2) g₉ w₉) $ await ! tt $
+        calls-at ! fm (HeadC 𝓤 H A at-mem run) (known .3) (head-to 𝓤 H A W at-mem run l₆ (named 3) κ₃ q₃ γ₃ b₃ o₃ (length ts₃) room₃ (named 1) κ₁ q₁ γ₁ b₁ o₁ ts₁ (named 2) κ₂ q₂ γ₂ b₂ o₂ ts₂ (x₈ .1) (x₈ .2) g₉) (and-then ! (load ! (from ! (stop !)) (look ! 28 refl)) (and-then ! (load ! (from ! (stop !)) (look ! 93 refl)) (and-then ! (load ! (from ! (stop !)) (look ! 91 refl)) (and-then ! (load ! (from ! (stop !)) (look ! 24 refl)) (no-more !))))) (λ w₉.
+        use2 W (later (some (λ (x : Out). given (head-says 𝓤 H A W at-mem run l₆ (named 3) κ₃ q₃ γ₃ b₃ o₃ (length ts₃) room₃ (named 1) κ₁ q₁ γ₁ b₁ o₁ ts₁ (named 2) κ₂ q₂ γ₂ b₂ o₂ ts₂ (x₈ .1) (x₈ .2) w₉ x) (head-pieces 𝓤 H A W at-mem run l₆ (named 3) κ₃ q₃ γ₃ b₃ o₃ (length ts₃) room₃ (named 1) κ₁ q₁ γ₁ b₁ o₁ ts₁ (named 2) κ₂ q₂ γ₂ b₂ o₂ ts₂ (x .1) (x .2))))) (head-give 𝓤 H A W at-mem run l₆ (named 3) κ₃ q₃ γ₃ b₃ o₃ (length ts₃) room₃ (named 1) κ₁ q₁ γ₁ b₁ o₁ ts₁ (named 2) κ₂ q₂ γ₂ b₂ o₂ ts₂ (x₈ .1) (x₈ .2) (p₈ .2) g₉ w₉) $ await ! tt $
         pick ! (λ x₉. learn ! (λ p₉. forget ! 77 refl $
         land ! (from ! (stop !)) (init ! 77 refl (EL.lawful N.the-type N′.the-laws 𝓤 H A W tt .typed (x₉ .0) _ (p₉ .0) .0)) $ split ! $ split ! $ split ! $
         split ! $ split ! $ split ! $ forget ! 87 refl $
         assigns ! (of-opd ! (load ! (from ! (stop !)) (look ! 0 refl))) (from ! (stop !)) (init ! 87 refl (LL.lawful S.the-type S′.the-laws 𝓤 H A W .typed (x₉ .1) _ (p₉ .1) .0)) $
-        use0 W (raw ((ShowC 𝓤 H A at-mem run) .pre (show-to 𝓤 H A W at-mem run 3 (lit< tt) (x₉ .0) w₉ (x₉ .1)))) (show-lend 𝓤 H A W at-mem run 3 (lit< tt) (x₉ .0) w₉ (x₉ .1) (p₉ .0) (p₉ .1)) $
-        calls-at ! fm (ShowC 𝓤 H A at-mem run) (known .8) (show-to 𝓤 H A W at-mem run 3 (lit< tt) (x₉ .0) w₉ (x₉ .1)) (and-then ! (lit ! tt) (and-then ! (load ! (from ! (stop !)) (look ! 84 refl)) (and-then ! (load ! (from ! (stop !)) (look ! 88 refl)) (no-more !)))) (λ v₉.
-        use1 W (later (given (v₉ ∷ [] ≡ vunit ∷ []) (‵ ftrue))) (show-give 𝓤 H A W at-mem run 3 (lit< tt) (x₉ .0) w₉ (x₉ .1) v₉) $ await ! tt $ learn ! (λ d₉.
+        use0 W (raw ((ShowC 𝓤 H A at-mem run) .pre (show-to 𝓤 H A W at-mem run 2 (lit< tt) (x₉ .0) w₉ (x₉ .1)))) (show-lend 𝓤 H A W at-mem run 2 (lit< tt) (x₉ .0) w₉ (x₉ .1) (p₉ .0) (p₉ .1)) $
+        calls-at ! fm (ShowC 𝓤 H A at-mem run) (known .7) (show-to 𝓤 H A W at-mem run 2 (lit< tt) (x₉ .0) w₉ (x₉ .1)) (and-then ! (lit ! tt) (and-then ! (load ! (from ! (stop !)) (look ! 84 refl)) (and-then ! (load ! (from ! (stop !)) (look ! 88 refl)) (no-more !)))) (λ v₉.
+        use1 W (later (given (v₉ ∷ [] ≡ vunit ∷ []) (‵ ftrue))) (show-give 𝓤 H A W at-mem run 2 (lit< tt) (x₉ .0) w₉ (x₉ .1) v₉) $ await ! tt $ learn ! (λ d₉.
         drop ! $ forget ! 85 refl $ land ! (from ! (stop !)) (init ! 85 refl (subst (λ (v : Val). T (hasTy tyUnit v) × WT v) (sym (ap only d₉)) (tt, tt))) $
         -- abandon
         assigns ! (addr ! (from ! (stop !))) (from ! (stop !)) (init ! 27 refl (tt, tt)) $
@@ -339,15 +337,15 @@ module _ {M : Type 1} (𝓤 : URA M) (H : Heap 𝓤) (A : Atoms 𝓤) (W : Given
         join ! $ join ! $
         use1 W (later (some (abandon-asks 𝓤 H A W at-mem run l₆ (named 3) κ₃ q₃ γ₃ b₃ o₃ (length ts₃) room₃ (x₉ .1) (x₉ .2)))) (abandon-lend 𝓤 H A W at-mem run l₆ (named 3) κ₃ q₃ γ₃ b₃ o₃ (length ts₃) room₃ (x₉ .1) (x₉ .2) (p₉ .1) (p₉ .2)) $ await ! tt $
         pick ! (λ g₁₀. split ! $
-        calls-at ! fm (AbandonC 𝓤 H A at-mem run) (known .5) (abandon-to 𝓤 H A W at-mem run l₆ (named 3) κ₃ q₃ γ₃ b₃ o₃ (length ts₃) room₃ (x₉ .1) (x₉ .2) g₁₀) (and-then ! (load ! (from ! (stop !)) (look ! 26 refl)) (and-then ! (load ! (from ! (stop !)) (look ! 22 refl)) (no-more !))) (λ w₁₀.
+        calls-at ! fm (AbandonC 𝓤 H A at-mem run) (known .4) (abandon-to 𝓤 H A W at-mem run l₆ (named 3) κ₃ q₃ γ₃ b₃ o₃ (length ts₃) room₃ (x₉ .1) (x₉ .2) g₁₀) (and-then ! (load ! (from ! (stop !)) (look ! 26 refl)) (and-then ! (load ! (from ! (stop !)) (look ! 22 refl)) (no-more !))) (λ w₁₀.
         use2 W (later (some (λ (x : Out). given (abandon-says 𝓤 H A W at-mem run l₆ (named 3) κ₃ q₃ γ₃ b₃ o₃ (length ts₃) room₃ (x₉ .1) (x₉ .2) w₁₀ x) (abandon-pieces 𝓤 H A W at-mem run l₆ (named 3) κ₃ q₃ γ₃ b₃ o₃ (length ts₃) room₃ (x .1) (x .2))))) (abandon-give 𝓤 H A W at-mem run l₆ (named 3) κ₃ q₃ γ₃ b₃ o₃ (length ts₃) room₃ (x₉ .1) (x₉ .2) (p₉ .2) g₁₀ w₁₀) $ await ! tt $
         pick ! (λ x₁₀. learn ! (λ p₁₀. forget ! 81 refl $
         land ! (from ! (stop !)) (init ! 81 refl (EL.lawful N.the-type N′.the-laws 𝓤 H A W tt .typed (x₁₀ .0) _ (p₁₀ .0) .0)) $ split ! $ split ! $
         forget ! 87 refl $
         assigns ! (of-opd ! (load ! (from ! (stop !)) (look ! 0 refl))) (from ! (stop !)) (init ! 87 refl (LL.lawful S.the-type S′.the-laws 𝓤 H A W .typed (x₁₀ .1) _ (p₁₀ .1) .0)) $
-        use0 W (raw ((ShowC 𝓤 H A at-mem run) .pre (show-to 𝓤 H A W at-mem run 5 (lit< tt) (x₁₀ .0) w₁₀ (x₁₀ .1)))) (show-lend 𝓤 H A W at-mem run 5 (lit< tt) (x₁₀ .0) w₁₀ (x₁₀ .1) (p₁₀ .0) (p₁₀ .1)) $
-        calls-at ! fm (ShowC 𝓤 H A at-mem run) (known .8) (show-to 𝓤 H A W at-mem run 5 (lit< tt) (x₁₀ .0) w₁₀ (x₁₀ .1)) (and-then ! (lit ! tt) (and-then ! (load ! (from ! (stop !)) (look ! 84 refl)) (and-then ! (load ! (from ! (stop !)) (look ! 88 refl)) (no-more !)))) (λ v₁₀.
-        use1 W (later (given (v₁₀ ∷ [] ≡ vunit ∷ []) (‵ ftrue))) (show-give 𝓤 H A W at-mem run 5 (lit< tt) (x₁₀ .0) w₁₀ (x₁₀ .1) v₁₀) $ await ! tt $
+        use0 W (raw ((ShowC 𝓤 H A at-mem run) .pre (show-to 𝓤 H A W at-mem run 4 (lit< tt) (x₁₀ .0) w₁₀ (x₁₀ .1)))) (show-lend 𝓤 H A W at-mem run 4 (lit< tt) (x₁₀ .0) w₁₀ (x₁₀ .1) (p₁₀ .0) (p₁₀ .1)) $
+        calls-at ! fm (ShowC 𝓤 H A at-mem run) (known .7) (show-to 𝓤 H A W at-mem run 4 (lit< tt) (x₁₀ .0) w₁₀ (x₁₀ .1)) (and-then ! (lit ! tt) (and-then ! (load ! (from ! (stop !)) (look ! 84 refl)) (and-then ! (load ! (from ! (stop !)) (look ! 88 refl)) (no-more !)))) (λ v₁₀.
+        use1 W (later (given (v₁₀ ∷ [] ≡ vunit ∷ []) (‵ ftrue))) (show-give 𝓤 H A W at-mem run 4 (lit< tt) (x₁₀ .0) w₁₀ (x₁₀ .1) v₁₀) $ await ! tt $
         learn ! (λ d₁₀. drop ! $ forget ! 85 refl $
         land ! (from ! (stop !)) (init ! 85 refl (subst (λ (v : Val). T (hasTy tyUnit v) × WT v) (sym (ap only d₁₀)) (tt, tt))) $
         -- finish
@@ -359,14 +357,14 @@ module _ {M : Type 1} (𝓤 : URA M) (H : Heap 𝓤) (A : Atoms 𝓤) (W : Given
         move ! (0 ∷ 1 ∷ 2 ∷ 9 ∷ 11 ∷ []) $ join ! $ join ! $ join ! $ join ! $
         use1 W (later (some (finish-asks 𝓤 H A W at-mem run l₆ (named 3) κ₃ q₃ γ₃ b₃ o₃ (length ts₃) room₃ (named 4) κ₄ q₄ γ₄ b₄ o₄ ts₄ room₄ (x₁₀ .1) (x₁₀ .2)))) (finish-lend 𝓤 H A W at-mem run l₆ (named 3) κ₃ q₃ γ₃ b₃ o₃ (length ts₃) room₃ (named 4) κ₄ q₄ γ₄ b₄ o₄ ts₄ room₄ (x₁₀ .1) (x₁₀ .2) (p₁₀ .1) (p₁₀ .2)) $ await ! tt $
         pick ! (λ g₁₁. split ! $
-        calls-at ! fm (FinishC 𝓤 H A at-mem run) (known .6) (finish-to 𝓤 H A W at-mem run l₆ (named 3) κ₃ q₃ γ₃ b₃ o₃ (length ts₃) room₃ (named 4) κ₄ q₄ γ₄ b₄ o₄ ts₄ room₄ (x₁₀ .1) (x₁₀ .2) g₁₁) (and-then ! (load ! (from ! (stop !)) (look ! 18 refl)) (and-then ! (load ! (from ! (stop !)) (look ! 14 refl)) (and-then ! (load ! (from ! (stop !)) (look ! 10 refl)) (no-more !)))) (λ w₁₁.
+        calls-at ! fm (FinishC 𝓤 H A at-mem run) (known .5) (finish-to 𝓤 H A W at-mem run l₆ (named 3) κ₃ q₃ γ₃ b₃ o₃ (length ts₃) room₃ (named 4) κ₄ q₄ γ₄ b₄ o₄ ts₄ room₄ (x₁₀ .1) (x₁₀ .2) g₁₁) (and-then ! (load ! (from ! (stop !)) (look ! 18 refl)) (and-then ! (load ! (from ! (stop !)) (look ! 14 refl)) (and-then ! (load ! (from ! (stop !)) (look ! 10 refl)) (no-more !)))) (λ w₁₁.
         use2 W (later (some (λ (x : Answer × List ℕ). given (finish-says 𝓤 H A W at-mem run l₆ (named 3) κ₃ q₃ γ₃ b₃ o₃ (length ts₃) room₃ (named 4) κ₄ q₄ γ₄ b₄ o₄ ts₄ room₄ (x₁₀ .1) (x₁₀ .2) w₁₁ x) (finish-pieces 𝓤 H A W at-mem run l₆ (named 3) κ₃ q₃ γ₃ b₃ o₃ (length ts₃) room₃ (named 4) κ₄ q₄ γ₄ b₄ o₄ ts₄ room₄ (x₁₀ .1) (x₁₀ .2) (x .1))))) (finish-give 𝓤 H A W at-mem run l₆ (named 3) κ₃ q₃ γ₃ b₃ o₃ (length ts₃) room₃ (named 4) κ₄ q₄ γ₄ b₄ o₄ ts₄ room₄ (x₁₀ .1) (x₁₀ .2) (p₁₀ .2) g₁₁ w₁₁) $ await ! tt $
         pick ! (λ x₁₁. learn ! (λ p₁₁. land ! (from ! (stop !)) (init ! 85 refl (EL.lawful N.the-type N′.the-laws 𝓤 H A W tt .typed (x₁₁ .0) _ (p₁₁ .0) .0)) $
         split ! $ split ! $ split ! $ split ! $ forget ! 87 refl $
         assigns ! (of-opd ! (load ! (from ! (stop !)) (look ! 0 refl))) (from ! (stop !)) (init ! 87 refl (LL.lawful S.the-type S′.the-laws 𝓤 H A W .typed (x₁₀ .1) _ (p₁₀ .1) .0)) $
-        use0 W (raw ((ShowC 𝓤 H A at-mem run) .pre (show-to 𝓤 H A W at-mem run 6 (lit< tt) (x₁₁ .0) w₁₁ (x₁₀ .1)))) (show-lend 𝓤 H A W at-mem run 6 (lit< tt) (x₁₁ .0) w₁₁ (x₁₀ .1) (p₁₁ .0) (p₁₀ .1)) $
-        calls-at ! fm (ShowC 𝓤 H A at-mem run) (known .8) (show-to 𝓤 H A W at-mem run 6 (lit< tt) (x₁₁ .0) w₁₁ (x₁₀ .1)) (and-then ! (lit ! tt) (and-then ! (load ! (from ! (stop !)) (look ! 90 refl)) (and-then ! (load ! (from ! (stop !)) (look ! 88 refl)) (no-more !)))) (λ v₁₁.
-        use1 W (later (given (v₁₁ ∷ [] ≡ vunit ∷ []) (‵ ftrue))) (show-give 𝓤 H A W at-mem run 6 (lit< tt) (x₁₁ .0) w₁₁ (x₁₀ .1) v₁₁) $ await ! tt $
+        use0 W (raw ((ShowC 𝓤 H A at-mem run) .pre (show-to 𝓤 H A W at-mem run 5 (lit< tt) (x₁₁ .0) w₁₁ (x₁₀ .1)))) (show-lend 𝓤 H A W at-mem run 5 (lit< tt) (x₁₁ .0) w₁₁ (x₁₀ .1) (p₁₁ .0) (p₁₀ .1)) $
+        calls-at ! fm (ShowC 𝓤 H A at-mem run) (known .7) (show-to 𝓤 H A W at-mem run 5 (lit< tt) (x₁₁ .0) w₁₁ (x₁₀ .1)) (and-then ! (lit ! tt) (and-then ! (load ! (from ! (stop !)) (look ! 90 refl)) (and-then ! (load ! (from ! (stop !)) (look ! 88 refl)) (no-more !)))) (λ v₁₁.
+        use1 W (later (given (v₁₁ ∷ [] ≡ vunit ∷ []) (‵ ftrue))) (show-give 𝓤 H A W at-mem run 5 (lit< tt) (x₁₁ .0) w₁₁ (x₁₀ .1) v₁₁) $ await ! tt $
         learn ! (λ d₁₁. drop ! $ forget ! 85 refl $
         land ! (from ! (stop !)) (init ! 85 refl (subst (λ (v : Val). T (hasTy tyUnit v) × WT v) (sym (ap only d₁₁)) (tt, tt))) $
         -- the end
@@ -391,7 +389,7 @@ module _ {M : Type 1} (𝓤 : URA M) (H : Heap 𝓤) (A : Atoms 𝓤) (W : Given
         move ! (22 ∷ 23 ∷ []) $ free1 ! $ move ! (20 ∷ 21 ∷ []) $ free1 ! $ move ! (18 ∷ 19 ∷ []) $ free1 ! $ move ! (16 ∷ 17 ∷ []) $ free1 ! $
         move ! (14 ∷ 15 ∷ []) $ free1 ! $ move ! (12 ∷ 13 ∷ []) $ free1 ! $ free0 ! $ nothing ! $ move ! (4 ∷ 0 ∷ []) $ join ! $ move ! (2 ∷ 0 ∷ []) $ join ! $
         move ! (6 ∷ 0 ∷ []) $ join ! $ move ! (4 ∷ 0 ∷ []) $ join ! $ move ! (6 ∷ 0 ∷ []) $ join ! $ keep ! (0 ∷ 5 ∷ 3 ∷ 4 ∷ 1 ∷ 2 ∷ []) $
-        by ! (let path : turned (gives (x₁₀ .1) (x₁₀ .0)) (x₁₀ .2) ≡ Script = (goes-on abandoning _ _ (x₉ .1) (x₉ .0) (x₉ .2) (p₁₀ .3) (goes-on (λ (h : Section) (ys : List ℕ). paraming h ts₁ ts₂ ys) _ _ (x₈ .1) (x₈ .0) (x₈ .2) (p₉ .3) (goes-on opening _ _ (x₇ .1) (x₇ .0) (x₇ .2) (p₈ .3) (goes-on (λ (h : Section) (ys : List ℕ). resulting h 0 12 ys) _ _ (x₆ .1) (x₆ .0) (x₆ .2) (p₇ .3) (goes-on (λ (h : Section) (ys : List ℕ). paraming h ts₁ ts₂ ys) _ _ (x₅ .1) (x₅ .0) (x₅ .2) (p₆ .3) (goes-on (λ (h : Section) (ys : List ℕ). resulting h 0 12 ys) _ _ (x₄ .1) (x₄ .0) (x₄ .2) (p₅ .3) (goes-on (λ (h : Section) (ys : List ℕ). asyncing h 1 ys) _ _ (x₃ .1) (x₃ .0) (x₃ .2) (p₄ .3) (goes-on opening _ _ (x₂ .1) (x₂ .0) (x₂ .2) (p₃ .3) (goes-on (λ (h : Section) (ys : List ℕ). rowing h ts₁ ts₂ ys) _ _ (x₁ .1) (x₁ .0) (x₁ .2) (p₂ .3) (goes-on (λ (h : Section) (ys : List ℕ). rowing h ts₀ ts₂ ys) _ _ h₀ (Size 0) ts₃ (p₁ .3) (λ i. turned (gives (p₀ .1 i) (Size 0)) ts₃))))))))))) in exits (x₁₁ .0) (x₁₀ .2) (x₁₁ .1) w₁₁ (p₁₁ .0) (p₁₀ .2) (p₁₁ .1) (p₁₁ .2 ∙ ap (λ (t : Turn). closed t ts₄) path, ap (λ (t : Turn). t .body) path)))))))))))))))))))))))))))))))))))))))))))))))))))))))))))))))))))))))))))))))))))))))))))))))))))))))))))))))))))))
+        by ! (let path : turned (gives (x₁₀ .1) (x₁₀ .0)) (x₁₀ .2) ≡ Script = (goes-on abandoning _ _ (x₉ .1) (x₉ .0) (x₉ .2) (p₁₀ .3) (goes-on (λ (h : Section) (ys : List ℕ). heading h ts₁ ts₂ ys) _ _ (x₈ .1) (x₈ .0) (x₈ .2) (p₉ .3) (goes-on opening _ _ (x₇ .1) (x₇ .0) (x₇ .2) (p₈ .3) (goes-on (λ (h : Section) (ys : List ℕ). resulting h 0 12 ys) _ _ (x₆ .1) (x₆ .0) (x₆ .2) (p₇ .3) (goes-on (λ (h : Section) (ys : List ℕ). heading h ts₁ ts₂ ys) _ _ (x₅ .1) (x₅ .0) (x₅ .2) (p₆ .3) (goes-on (λ (h : Section) (ys : List ℕ). resulting h 0 12 ys) _ _ (x₄ .1) (x₄ .0) (x₄ .2) (p₅ .3) (goes-on opening _ _ (x₃ .1) (x₃ .0) (x₃ .2) (p₄ .3) (goes-on opening _ _ (x₂ .1) (x₂ .0) (x₂ .2) (p₃ .3) (goes-on (λ (h : Section) (ys : List ℕ). rowing h ts₁ ts₂ ys) _ _ (x₁ .1) (x₁ .0) (x₁ .2) (p₂ .3) (goes-on (λ (h : Section) (ys : List ℕ). rowing h ts₀ ts₂ ys) _ _ h₀ (Size 0) ts₃ (p₁ .3) (λ i. turned (gives (p₀ .1 i) (Size 0)) ts₃))))))))))) in exits (x₁₁ .0) (x₁₀ .2) (x₁₁ .1) w₁₁ (p₁₁ .0) (p₁₀ .2) (p₁₁ .1) (p₁₁ .2 ∙ ap (λ (t : Turn). closed t ts₄) path, ap (λ (t : Turn). t .body) path)))))))))))))))))))))))))))))))))))))))))))))))))))))))))))))))))))))))))))))))))))))))))))))))))))))))))))))))))))))
 
 module _ {M : Type 1} (𝓤 : URA M) (H : Heap 𝓤) (A : Atoms 𝓤) (W : Given 𝓤 H A) (mem : Memory → SProp 𝓤) (run : Routine → Fun 𝓤) where
   walks : (C : Calls 𝓤 H) (Λ : Loops 𝓤 H) → FmC 𝓤 H (W .laws) C → Known 𝓤 H A mem run C → Walks 𝓤 H A f.ended stayed (WpFn 𝓤 H C Λ code.function) (f.clauses 𝓤 H A mem run)
@@ -412,9 +410,8 @@ by-lending-spec 𝓤 H 𝓜 𝓖 𝓡 =
     (meets 𝓤 H (𝓖 .A) (givenOf 𝓤 H 𝓜 𝓖) (𝓜 .mem) (𝓡 .run) (tablesOf 𝓤 H 𝓜 (tables 𝓤 H 𝓜 𝓡 code.env)) (
       cited 𝓤 H (RowC 𝓤 H (𝓖 .A) (𝓜 .mem) (𝓡 .run)) 𝓜 𝓡 code.env of-row.name of-row.routine code.calls-lent·row (row-thm.met 𝓤 H 𝓜 𝓖 𝓡),
       cited 𝓤 H (OpenC 𝓤 H (𝓖 .A) (𝓜 .mem) (𝓡 .run)) 𝓜 𝓡 code.env of-open.name of-open.routine code.calls-lent·open (open-thm.met 𝓤 H 𝓜 𝓖 𝓡),
-      cited 𝓤 H (MakeAsyncC 𝓤 H (𝓖 .A) (𝓜 .mem) (𝓡 .run)) 𝓜 𝓡 code.env of-make-async.name of-make-async.routine code.calls-lent·make-async (make-async-thm.met 𝓤 H 𝓜 𝓖 𝓡),
       cited 𝓤 H (ResultC 𝓤 H (𝓖 .A) (𝓜 .mem) (𝓡 .run)) 𝓜 𝓡 code.env of-result.name of-result.routine code.calls-lent·result (result-thm.met 𝓤 H 𝓜 𝓖 𝓡),
-      cited 𝓤 H (ParamsC 𝓤 H (𝓖 .A) (𝓜 .mem) (𝓡 .run)) 𝓜 𝓡 code.env of-params.name of-params.routine code.calls-lent·params (params-thm.met 𝓤 H 𝓜 𝓖 𝓡),
+      cited 𝓤 H (HeadC 𝓤 H (𝓖 .A) (𝓜 .mem) (𝓡 .run)) 𝓜 𝓡 code.env of-head.name of-head.routine code.calls-lent·head (head-thm.met 𝓤 H 𝓜 𝓖 𝓡),
       cited 𝓤 H (AbandonC 𝓤 H (𝓖 .A) (𝓜 .mem) (𝓡 .run)) 𝓜 𝓡 code.env of-abandon.name of-abandon.routine code.calls-lent·abandon (abandon-thm.met 𝓤 H 𝓜 𝓖 𝓡),
       cited 𝓤 H (FinishC 𝓤 H (𝓖 .A) (𝓜 .mem) (𝓡 .run)) 𝓜 𝓡 code.env of-finish.name of-finish.routine code.calls-lent·finish (finish-thm.met 𝓤 H 𝓜 𝓖 𝓡),
       cited 𝓤 H (NewC 𝓤 H (𝓖 .A) (𝓜 .mem) (𝓡 .run)) 𝓜 𝓡 code.env of-new.name of-new.routine code.calls-sections·Section·new (new-thm.met 𝓤 H 𝓜 𝓖 𝓡),

@@ -17,13 +17,10 @@ returns-4 : tie.Need-returns-4
 returns-4 c = let test = c .before in simp (ne-eqb _ _ (test .before .before .if1 .left), ne-eqb _ _ (test .before .if3 .left), eq-eqb _ _ (test .if4 .taken)) (c .in-phase3 .ensures)
 
 returns-5 : tie.Need-returns-5
-returns-5 c = let test = c .before in simp (ne-eqb _ _ (test .before .before .before .if1 .left), ne-eqb _ _ (test .before .before .if3 .left), ne-eqb _ _ (test .before .if4 .left), eq-eqb _ _ (test .if5 .taken)) (c .in-phase4 .ensures)
-
-returns-6 : tie.Need-returns-6
-returns-6 c = simp (ne-eqb _ _ (c .before .before .before .if1 .left), ne-eqb _ _ (c .before .before .if3 .left), ne-eqb _ _ (c .before .if4 .left), ne-eqb _ _ (c .if5 .left))
+returns-5 c = simp (ne-eqb _ _ (c .before .before .if1 .left), ne-eqb _ _ (c .before .if3 .left), ne-eqb _ _ (c .if4 .left))
 
 pub with-phase-spec : {M : Type 1} → statement M
 with-phase-spec =
     tie.close
     (tie.spec (λ c κs. search needs) returns returns-2 (λ c κs. search needs) returns-3 (λ c κs. search needs)
-    returns-4 (λ c κs. search needs) returns-5 returns-6)
+    returns-4 returns-5)

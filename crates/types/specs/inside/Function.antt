@@ -1,6 +1,5 @@
 -- The parts of a function, as straight code puts them.
-use mathlib.Core.Bool.{Bool, cond}
-use mathlib.Core.List.{List, [], _∷_, _++_}
+use mathlib.Core.List.{List, _∷_, _++_}
 use Prim.Native.Nat.{ℕ, _+_, _*_}
 use lib.ListN.{drop}
 use Rattle.numbers.specs.Leb.{unsigned}
@@ -22,5 +21,7 @@ functionBytes pool row =
     ++ (elements (word row 2) 4 (labelvaltype pool) (drop 3 row)
     ++ resultlist (word row (3 + word row 2 * 4)) (word row (4 + word row 2 * 4))))
 
-abbrev pub paramsLead : Bool → List ℕ
-paramsLead first = cond first (0x40 ∷ []) []
+-- the words of a step, and what they make: the first byte and the parameters
+abbrev pub headBytes : List ℕ → List ℕ → List ℕ
+headBytes pool words =
+    functype (word words 0) ∷ (unsigned (word words 1) ++ elements (word words 1) 4 (labelvaltype pool) (drop 2 words))

@@ -24,9 +24,6 @@ back-to-requires c κs = count-positive _ _ (sound-here (c .before .before .befo
 back-to-requires-2 : tie.Need-back-to-requires-2
 back-to-requires-2 c κs = count-positive _ _ (sound-here (c .before .before .before)) (ap opened (c .before .phase2 .given .1))
 
-back-to-requires-3 : tie.Need-back-to-requires-3
-back-to-requires-3 c κs = count-positive _ _ (sound-here (c .before .before .before)) (ap opened (c .before .phase3 .given .1))
-
 returns-2 : tie.Need-returns-2
 unfolding abandoning
 returns-2 c =
@@ -41,17 +38,10 @@ returns-3 c =
 
 returns-4 : tie.Need-returns-4
 unfolding abandoning
-returns-4 c =
-    let arm = c .before .before in
-    simp (c .back-to3 .ensures, sound-here (arm .before .before), arm .phase3 .given .1)
-
-returns-5 : tie.Need-returns-5
-unfolding abandoning
-returns-5 c = simp (c .refuse2 .ensures, sound-here (c .before .before .before), c .before .enum-told .given .1)
+returns-4 c = simp (c .refuse2 .ensures, sound-here (c .before .before .before), c .before .enum-told .given .1)
 
 pub abandon-spec : {M : Type 1} → statement M
 abandon-spec =
     tie.close
     (tie.spec (λ c κs. search needs) (λ c κs. search needs) returns (search needs) back-to-requires (search needs)
-    back-to-requires-2 (search needs) back-to-requires-3 (search needs) (λ c κs. search needs) returns-2 returns-3
-    returns-4 returns-5)
+    back-to-requires-2 (search needs) (λ c κs. search needs) returns-2 returns-3 returns-4)

@@ -1,4 +1,4 @@
--- `Section::result` meets its contract: a function with parameters takes the result that is written (`as-wrote`), within the body
+-- `Section::result` meets its contract: a function with a head takes the result that is written (`as-wrote`), within the body
 -- (`written-fits`), and any other phase is refused.
 use borrow.Author.Needs.{needs}
 use denote.Ref.{now}
@@ -42,13 +42,9 @@ returns-4 : tie.Need-returns-4
 unfolding resulting
 returns-4 c = simp (c .refuse3 .ensures, sound-here (c .before .before .before), c .before .enum-told3 .given .1)
 
-returns-5 : tie.Need-returns-5
-unfolding resulting
-returns-5 c = simp (c .refuse4 .ensures, sound-here (c .before .before .before), c .before .enum-told4 .given .1)
-
 pub result-spec : {M : Type 1} → statement M
 result-spec =
     tie.close
     (tie.spec (λ c κs. search needs) (λ c κs. search needs) returns (search needs) (λ c κs. search needs)
-    after-requires (search needs) (λ c κs. search needs) (search needs) (λ c κs. search needs) (search needs)
-    (λ c κs. search needs) (search needs) returns-2 returns-3 returns-4 returns-5)
+    after-requires (search needs) (λ c κs. search needs) (search needs) (λ c κs. search needs) (search needs) returns-2
+    returns-3 returns-4)

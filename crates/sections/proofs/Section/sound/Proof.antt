@@ -26,14 +26,8 @@ returns-4 c =
     let arm = c .before .before in
     simp (le-ltb _ _ (arm .before .before .if1 .left), arm .phase2 .given .1) (c .holds2 .ensures)
 
-returns-5 : tie.Need-returns-5
-unfolding sounds
-returns-5 c =
-    let arm = c .before .before in
-    simp (le-ltb _ _ (arm .before .before .if1 .left), arm .phase3 .given .1) (c .holds3 .ensures)
-
 pub sound-spec : {M : Type 1} → statement M
 sound-spec =
     tie.close
     (tie.spec returns (search needs) (λ c κs. search needs) (search needs) (λ c κs. search needs) (search needs)
-    (λ c κs. search needs) (search needs) (λ c κs. search needs) returns-2 returns-3 returns-4 returns-5)
+    (λ c κs. search needs) returns-2 returns-3 returns-4)

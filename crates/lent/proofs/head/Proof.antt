@@ -1,4 +1,4 @@
--- `lent::params` meets its contract: a walk of its MIR, by hand. The borrow of the state is opened, and the state is copied; the body's borrow
+-- `lent::head` meets its contract: a walk of its MIR, by hand. The borrow of the state is opened, and the state is copied; the body's borrow
 -- goes to the step by value for good; the state that it hands back is stored, and the borrow is closed at it.
 -- All that the proof knows of the step by value is that it meets its contract.
 -- Assumes nothing.
@@ -45,21 +45,21 @@ use denote.Triple.Walked.{says, Stays, stay-ref, gave-slice, walkOf, goes-ref, g
 use denote.Signature.{plain}
 use Rattle.sections.specs.declared.Section.{Section}
 use Rattle.sections.specs.declared.Turned.{Turned}
-use Rattle.sections.specs.Steps.{turned, paraming}
+use Rattle.sections.specs.Steps.{turned, heading}
 use Rattle.sections.proofs.Section as S
 use Rattle.sections.proofs.Section.Laws as S′
 use Rattle.sections.proofs.Turned as P
 use Rattle.sections.proofs.Turned.Laws as P′
 use Rattle.fields.proofs.Answer as N
 use Rattle.fields.proofs.Answer.Laws as N′
-use Rattle.sections.proofs.Section.params as g
-use Rattle.sections.proofs.Section.params.Symbol as g-def
-use Rattle.sections.proofs.Section.params.Symbol.{name as #callee}
-use Rattle.sections.proofs.Section.params.Met as g-thm
-use Rattle.lent.proofs.params.Key.{name as #self}
-use Rattle.lent.proofs.params as f
-use Rattle.lent.proofs.params.Statement as stated
-use Rattle.lent.proofs.params.Code as code
+use Rattle.sections.proofs.Section.head as g
+use Rattle.sections.proofs.Section.head.Symbol as g-def
+use Rattle.sections.proofs.Section.head.Symbol.{name as #callee}
+use Rattle.sections.proofs.Section.head.Met as g-thm
+use Rattle.lent.proofs.head.Key.{name as #self}
+use Rattle.lent.proofs.head as f
+use Rattle.lent.proofs.head.Statement as stated
+use Rattle.lent.proofs.head.Code as code
 
 abbrev stayed : Stays (f.ended .signature .params) (f.ended .kept)
 stayed = (stay-ref (0 ∷ []) tt (plain (λ _. S.the-row)), (stay-none-slice (1 ∷ []) tt (plain (λ _. u32)) yes, (stay-none-slice (2 ∷ []) tt (plain (λ _. u8)) yes, (gave-slice (3 ∷ []) tt (plain (λ _. u8)), tt))))
@@ -122,7 +122,7 @@ module _ {M : Type 1} (𝓤 : URA M) (H : Heap 𝓤) (A : Atoms 𝓤) (W : Given
       qed W ((‵ (flft κ₁ q₁) ⊛ ‵ (flft κ₂ q₂) ⊛ ‵ (flft κ′ q′) ⊛ ‵ ftrue) ∷ ‵ Rest ∷ []) ∵
       owned ! S.the-row (Is S.the-row) (LL.makes S.the-type S′.the-plain 𝓤 H A) h _ was $ move ! (0 ∷ 2 ∷ []) $ fjoin ! $ move ! (1 ∷ 0 ∷ []) $ join ! $ frame ! $ done !
 
-  exits : (r : Turned) (zs : List ℕ) (v : Val) → Is N.the-row (r .answer) (v ∷ []) → turned r zs ≡ paraming h ts₀ ts₁ ys → length zs ≡ length ys
+  exits : (r : Turned) (zs : List ℕ) (v : Val) → Is N.the-row (r .answer) (v ∷ []) → turned r zs ≡ heading h ts₀ ts₁ ys → length zs ≡ length ys
       → ent 𝓤 (⋆ 𝓤 H A (‵ (fobs γ (S.the-row .coded .code (r .section))) ∷ ‵ (fbor κ (Body (mem S.the-row) b o γ)) ∷ ‵ (flft κ q) ∷ (‵ (flft κ₁ q₁) ⊛ ‵ (flft κ₂ q₂) ⊛ ‵ (flft κ′ q′) ⊛ ‵ ftrue) ∷ ‵ (finally u8 γ′ zs) ∷ ‵ Text₀ ∷ ‵ Text₁ ∷ [])) (Post v)
   exits r zs v is e l =
       qed W (‵ (fobs γ (S.the-row .coded .code (r .section))) ∷ ‵ (fbor κ (Body (mem S.the-row) b o γ)) ∷ ‵ (flft κ q) ∷ (‵ (flft κ₁ q₁) ⊛ ‵ (flft κ₂ q₂) ⊛ ‵ (flft κ′ q′) ⊛ ‵ ftrue) ∷ ‵ (finally u8 γ′ zs) ∷ ‵ Text₀ ∷ ‵ Text₁ ∷ []) ∵
@@ -150,8 +150,8 @@ module _ {M : Type 1} (𝓤 : URA M) (H : Heap 𝓤) (A : Atoms 𝓤) (W : Given
         move ! (6 ∷ []) $ fsplit ! $ use1 W (‵ Text₀ ⊛ ‵ Text₀) (shr-slice-copy 𝓤 H A W (named 1) κ₁ u32 .twice z₀ (u₀ ∷ [])) $ split ! $ move ! (2 ∷ []) $ fsplit ! $ use1 W (‵ Text₁ ⊛ ‵ Text₁) (shr-slice-copy 𝓤 H A W (named 2) κ₂ u8 .twice z₁ (u₁ ∷ [])) $ split ! $ move ! (0 ∷ 2 ∷ []) $ fjoin ! $ move ! (2 ∷ 0 ∷ []) $ fjoin ! $ move ! (8 ∷ 0 ∷ []) $ use2 W (raw (Callee 𝓤 H A at-mem run .pre to)) (goes was) $
         calls-at ! fm (Callee 𝓤 H A at-mem run) known to (and-then ! (load ! (from ! (stop !)) (look ! 12 refl)) (and-then ! (load ! (from ! (stop !)) (look ! 20 refl)) (and-then ! (load ! (from ! (stop !)) (look ! 18 refl)) (and-then ! (load ! (from ! (stop !)) (look ! 8 refl)) (no-more !))))) (λ w.
         use1 W (later (some (λ (r : Turned). ((‵ (flft κ₁ q₁) ⊛ ‵ (flft κ₂ q₂) ⊛ ‵ (flft κ′ q′) ⊛ ‵ ftrue) ⊛ ‵ (P.the-row .own r (w ∷ []))) ⊛ raw (ensured 𝓤 H A g.ended (g.clauses 𝓤 H A at-mem run) (κ₁, (κ₂, (κ′, tt))) (h, (z₀, (z₁, (y, tt)))) tt r)))) (id⊢ 𝓤 _) $ await ! tt $ pick ! (λ r.
-        split ! $ move ! (1 ∷ []) $ use1 W (some (λ (zs : Unit {0} × (Unit {0} × (Unit {0} × (List ℕ × Unit {0})))). ‵ (lasts g.ended (κ₁, (κ₂, (κ′, tt))) (h, (z₀, (z₁, (y, tt)))) zs) ⊛ raw (fact 𝓤 (turned r (zs .1 .1 .1 .0) ≡ paraming h ts₀ ts₁ ys)))) (id⊢ 𝓤 _) $ pick ! (λ zs.
-        split ! $ move ! (1 ∷ []) $ heard ! (turned r (zs .1 .1 .1 .0) ≡ paraming h ts₀ ts₁ ys) (λ e. fsplit ! $ drop ! $ fsplit ! $ drop ! $ fsplit ! $ drop ! $ fsplit ! $ fsplit ! $ move ! (1 ∷ []) $ feqL ! (λ l.
+        split ! $ move ! (1 ∷ []) $ use1 W (some (λ (zs : Unit {0} × (Unit {0} × (Unit {0} × (List ℕ × Unit {0})))). ‵ (lasts g.ended (κ₁, (κ₂, (κ′, tt))) (h, (z₀, (z₁, (y, tt)))) zs) ⊛ raw (fact 𝓤 (turned r (zs .1 .1 .1 .0) ≡ heading h ts₀ ts₁ ys)))) (id⊢ 𝓤 _) $ pick ! (λ zs.
+        split ! $ move ! (1 ∷ []) $ heard ! (turned r (zs .1 .1 .1 .0) ≡ heading h ts₀ ts₁ ys) (λ e. fsplit ! $ drop ! $ fsplit ! $ drop ! $ fsplit ! $ drop ! $ fsplit ! $ fsplit ! $ move ! (1 ∷ []) $ feqL ! (λ l.
         move ! (2 ∷ []) $ split ! $ move ! (1 ∷ []) $ peeks ! P.the-row (Is P.the-row) (shows 𝓤 H A P.the-row) r (w ∷ []) (λ is.
         land ! (from ! (stop !)) (init ! 17 refl (LL.lawful P.the-type P′.the-laws 𝓤 H A W .typed r _ is .0)) $
         rewrite ! 17 (λ (u : Val). ‵ (fat fullShare P′.mir l₅ 0 u)) (ap only (LL.tells P.the-type P′.the-laws r _ is)) refl $
@@ -178,10 +178,10 @@ meets 𝓤 H A W mem run 𝓣 known =
     walk-meets 𝓤 H A f.ended stayed W (goes-ref 𝓤 H A W 4 0 tt (plain (λ _. S.the-row)), (goes-none-slice 𝓤 H A W 4 (1 ∷ []) tt (plain (λ _. u32)) yes, (goes-none-slice 𝓤 H A W 4 (2 ∷ []) tt (plain (λ _. u8)) yes, (goes-gave-slice 𝓤 H A W 4 3 tt (plain (λ _. u8)), tt)))) (f.clauses 𝓤 H A mem run)
     (WpFn 𝓤 H (𝓣 .C) (𝓣 .Λ) code.function) (WpFn-mono 𝓤 H (W .laws) 𝓣 code.function) (walks 𝓤 H A W mem run (𝓣 .C) (𝓣 .Λ) (fmOf 𝓤 H (W .laws) 𝓣) known)
 
-pub params-spec : {M : Type 1} → stated.statement M
+pub head-spec : {M : Type 1} → stated.statement M
 unfolding code.routine tablesOf
-params-spec 𝓤 H 𝓜 𝓖 𝓡 =
+head-spec 𝓤 H 𝓜 𝓖 𝓡 =
     entered 𝓤 H (tripleOf 𝓤 H (𝓖 .A) f.signature (f.spec 𝓤 H (𝓖 .A) (𝓜 .mem) (𝓡 .run)))
     (tables 𝓤 H 𝓜 𝓡 code.env .C) (tables 𝓤 H 𝓜 𝓡 code.env .Λ) #self code.function (code.unfolded 𝓤 H 𝓜 𝓡)
     (meets 𝓤 H (𝓖 .A) (givenOf 𝓤 H 𝓜 𝓖) (𝓜 .mem) (𝓡 .run) (tablesOf 𝓤 H 𝓜 (tables 𝓤 H 𝓜 𝓡 code.env))
-    (cited 𝓤 H (Callee 𝓤 H (𝓖 .A) (𝓜 .mem) (𝓡 .run)) 𝓜 𝓡 code.env #callee g-def.routine code.calls-sections·Section·params (g-thm.met 𝓤 H 𝓜 𝓖 𝓡)))
+    (cited 𝓤 H (Callee 𝓤 H (𝓖 .A) (𝓜 .mem) (𝓡 .run)) 𝓜 𝓡 code.env #callee g-def.routine code.calls-sections·Section·head (g-thm.met 𝓤 H 𝓜 𝓖 𝓡)))
