@@ -9,10 +9,8 @@ use lib.Dec.{T, leb, leb→le}
 use lib.ListN.{length, take}
 use Rattle.numbers.specs.Beginnings.{LongestBeginning}
 use Rattle.numbers.specs.Bytes.{Bytes}
-use Rattle.numbers.specs.Text.{Row, table, among, firstIn, step, onward, rest, text, goes, stop, spellingOf}
+use Rattle.numbers.specs.Text.{Range, Row, table, among, firstIn, Step, Next, Bad, step, onward, rest, text, goes, stop, spellingOf}
 use Rattle.numbers.specs.declared.text.Spelling.the-variants.{Stops}
-use Rattle.numbers.specs.declared.text.Step.{Step}
-use Rattle.numbers.specs.declared.text.Step.the-variants.{Next, Bad}
 use Rattle.numbers.proofs.TextChunks.{side}
 use Rattle.numbers.proofs.TextRows.{and-left, and-right}
 use Rattle.numbers.proofs.TextLaws.{later-rest, stop-within, spelled-wrong, stops-stop}
@@ -20,87 +18,93 @@ use Rattle.numbers.proofs.Impossible.{impossible}
 
 -- ---- what is begun can be ended
 
--- the least bytes that end it: `need` of them, the first of them `low`
-abbrev fill : ℕ → ℕ → List ℕ
-fill zero low = []
-fill (suc need) low = low ∷ fill need 0x80
-
-fill-rest : (need low high : ℕ) → low ≤ high → rest need low high (fill need low) ≡ true
-unfolding rest
-fill-rest zero low high h = refl
-fill-rest (suc need) low high h = later-rest need low high low (fill need 0x80) (omega arith) h ∙ fill-rest need 0x80 0xbf (omega arith)
-
-fill-bytes : (need low : ℕ) → low < 2 ^ 8 → Bytes (fill need low)
-fill-bytes zero low h i = omega arith
-fill-bytes (suc need) low h zero = h
-fill-bytes (suc need) low h (suc i) = fill-bytes need 0x80 (omega arith) i
-
--- after a step that is not bad some byte can come
-abbrev Open : Step → Type 0
-Open (Next need low high) = (low ≤ high) × (low < 2 ^ 8)
-Open Bad = Unit {0}
-
-abbrev isOpen : Row → Bool
+-- some byte is in the range, and so in each
+abbrev isOpen : Range → Bool
 isOpen r = leb (r .low) (r .high) && leb (r .high) 0xff
 
-abbrev allOpen : List Row → Bool
+abbrev allOpen : List Range → Bool
 allOpen [] = true
 allOpen (r ∷ rs) = isOpen r && allOpen rs
 
-first-open : (rs : List Row) → T (allOpen rs) → (b : ℕ) → Open (firstIn rs b)
-first-open [] t b = tt
-first-open (r ∷ rs) t b = go (among (r .from) (r .to) b) (first-open rs (and-right (isOpen r) (allOpen rs) t) b)
-  where
-    here : T (isOpen r)
-    here = and-left (isOpen r) (allOpen rs) t
+open-low : (r : Range) → T (isOpen r) → r .low ≤ r .high
+open-low r t = leb→le (r .low) (r .high) (and-left (leb (r .low) (r .high)) (leb (r .high) 0xff) t)
 
-    go : (a : Bool) → Open (firstIn rs b) → Open (cond a (Next (r .follow) (r .low) (r .high)) (firstIn rs b))
-    go true later =
-        let p = leb→le (r .low) (r .high) (and-left (leb (r .low) (r .high)) (leb (r .high) 0xff) here) in
-        let q = leb→le (r .high) 0xff (and-right (leb (r .low) (r .high)) (leb (r .high) 0xff) here) in
-        (p, omega arith)
+open-high : (r : Range) → T (isOpen r) → r .high ≤ 0xff
+open-high r t = leb→le (r .high) 0xff (and-right (leb (r .low) (r .high)) (leb (r .high) 0xff) t)
+
+-- the least bytes that end it
+abbrev fill : List Range → List ℕ
+fill [] = []
+fill (r ∷ rs) = r .low ∷ fill rs
+
+fill-rest : (rs : List Range) → T (allOpen rs) → rest rs (fill rs) ≡ true
+unfolding rest
+fill-rest [] t = refl
+fill-rest (r ∷ rs) t =
+    later-rest r rs (r .low) (fill rs) (omega arith) (open-low r (and-left (isOpen r) (allOpen rs) t))
+    ∙ fill-rest rs (and-right (isOpen r) (allOpen rs) t)
+
+fill-bytes : (rs : List Range) → T (allOpen rs) → Bytes (fill rs)
+fill-bytes [] t i = omega arith
+fill-bytes (r ∷ rs) t zero =
+    let o = and-left (isOpen r) (allOpen rs) t in
+    omega (arith, open-low r o, open-high r o)
+fill-bytes (r ∷ rs) t (suc i) = fill-bytes rs (and-right (isOpen r) (allOpen rs) t) i
+
+-- after a step that is not bad bytes can come
+abbrev Open : Step → Type 0
+Open (Next rs) = T (allOpen rs)
+Open Bad = Unit {0}
+
+abbrev rowsOpen : List Row → Bool
+rowsOpen [] = true
+rowsOpen (r ∷ rs) = allOpen (r .later) && rowsOpen rs
+
+first-open : (rs : List Row) → T (rowsOpen rs) → (b : ℕ) → Open (firstIn rs b)
+first-open [] t b = tt
+first-open (r ∷ rs) t b = go (among (r .first) b) (first-open rs (and-right (allOpen (r .later)) (rowsOpen rs) t) b)
+  where
+    go : (a : Bool) → Open (firstIn rs b) → Open (cond a (Next (r .later)) (firstIn rs b))
+    go true later = and-left (allOpen (r .later)) (rowsOpen rs) t
     go false later = later
 
-step-open : (need low high b : ℕ) → Open (step need low high b)
+step-open : (rs : List Range) (b : ℕ) → T (allOpen rs) → Open (step rs b)
 unfolding step
-step-open zero low high b = first-open table tt b
-step-open (suc need) low high b = go (among low high b)
+step-open [] b t = first-open table tt b
+step-open (r ∷ rs) b t = go (among r b)
   where
-    go : (a : Bool) → Open (cond a (Next need 0x80 0xbf) Bad)
-    go true = (omega arith, omega arith)
+    go : (a : Bool) → Open (cond a (Next rs) Bad)
+    go true = and-right (isOpen r) (allOpen rs) t
     go false = tt
 
 -- some bytes behind s end what is begun
-abbrev Ends : ℕ → ℕ → ℕ → List ℕ → Type 0
-Ends need low high s = (t : List ℕ) × (Bytes t × (rest need low high (s ++ t) ≡ true))
+abbrev Ends : List Range → List ℕ → Type 0
+Ends rs s = (t : List ℕ) × (Bytes t × (rest rs (s ++ t) ≡ true))
 
-filled : (need low high : ℕ) → low ≤ high → low < 2 ^ 8 → Ends need low high []
-filled need low high p q = (fill need low, (fill-bytes need low q, fill-rest need low high p))
+filled : (rs : List Range) → T (allOpen rs) → Ends rs []
+filled rs t = (fill rs, (fill-bytes rs t, fill-rest rs t))
 
-going : (need low high : ℕ) (s : List ℕ) → low ≤ high → low < 2 ^ 8 → Ends need low high (take (goes need low high s) s)
+going : (rs : List Range) (s : List ℕ) → T (allOpen rs) → Ends rs (take (goes rs s) s)
 unfolding goes rest
-going need low high [] p q = filled need low high p q
-going need low high (b ∷ s) p q = go (step need low high b) refl (step-open need low high b) (λ n l h u v. going n l h s u v)
+going rs [] t = filled rs t
+going rs (b ∷ s) t = go (step rs b) refl (step-open rs b t) (λ more u. going more s u)
   where
-    go : (x : Step) → step need low high b ≡ x → Open x
-        → ((n l h : ℕ) → l ≤ h → l < 2 ^ 8 → Ends n l h (take (goes n l h s) s))
-        → Ends need low high (take (onward 0 x (λ n l h. suc (goes n l h s))) (b ∷ s))
-    go (Next n l h) e o later = let r = later n l h (o .0) (o .1) in (r .0, (r .1 .0, rw e (r .1 .1)))
-    go Bad e o later = filled need low high p q
+    go : (x : Step) → step rs b ≡ x → Open x → ((more : List Range) → T (allOpen more) → Ends more (take (goes more s) s))
+        → Ends rs (take (onward 0 x (λ more. suc (goes more s))) (b ∷ s))
+    go (Next more) e o later = let r = later more o in (r .0, (r .1 .0, rw e (r .1 .1)))
+    go Bad e o later = filled rs t
 
 -- ---- behind a bad step nothing is text
 
-stopping : (need low high : ℕ) (s : List ℕ) (m : ℕ) → goes need low high s < m → m ≤ length s → (t : List ℕ)
-    → rest need low high (take m s ++ t) ≡ false
+stopping : (rs : List Range) (s : List ℕ) (m : ℕ) → goes rs s < m → m ≤ length s → (t : List ℕ) → rest rs (take m s ++ t) ≡ false
 unfolding goes rest
-stopping need low high [] m p q t = absurd (omega arith)
-stopping need low high (b ∷ s) zero p q t = absurd (omega arith)
-stopping need low high (b ∷ s) (suc m) p q t =
-    go (step need low high b) refl p (λ n l h r. stopping n l h s m r (omega arith) t)
+stopping rs [] m p q t = absurd (omega arith)
+stopping rs (b ∷ s) zero p q t = absurd (omega arith)
+stopping rs (b ∷ s) (suc m) p q t = go (step rs b) refl p (λ more r. stopping more s m r (omega arith) t)
   where
-    go : (x : Step) → step need low high b ≡ x → onward 0 x (λ n l h. suc (goes n l h s)) < suc m
-        → ((n l h : ℕ) → goes n l h s < m → rest n l h (take m s ++ t) ≡ false) → rest need low high (b ∷ (take m s ++ t)) ≡ false
-    go (Next n l h) e r later = rw e (later n l h (omega arith))
+    go : (x : Step) → step rs b ≡ x → onward 0 x (λ more. suc (goes more s)) < suc m
+        → ((more : List Range) → goes more s < m → rest more (take m s ++ t) ≡ false) → rest rs (b ∷ (take m s ++ t)) ≡ false
+    go (Next more) e r later = rw e (later more (omega arith))
     go Bad e r later = rw e
 
 -- ---- where a name stops
@@ -109,8 +113,8 @@ stop-longest : (s : List ℕ) → LongestBeginning s (stop s)
 unfolding stop text
 stop-longest s = record {
   within = stop-within s;
-  goes-on = going 0 0x80 0xbf s (omega arith) (omega arith);
-  no-more = λ m p q t e. impossible (cc (stopping 0 0x80 0xbf s m p q t));
+  goes-on = going [] s tt;
+  no-more = λ m p q t e. impossible (cc (stopping [] s m p q t));
 }
 
 pub longest : (s : List ℕ) (n : ℕ) → spellingOf s ≡ Stops n → LongestBeginning s n

@@ -2,6 +2,7 @@ mod Reading
 mod Shortest
 mod TextChunks
 mod TextRows
+mod TextRuns
 mod ThreeBytes
 mod Vectors
 pub mod AgainLaws

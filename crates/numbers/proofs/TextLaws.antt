@@ -6,59 +6,59 @@ use mathlib.Core.Path.{_≡_, refl, sym, _∙_}
 use mathlib.Core.Bool.{Bool, true, false, cond}
 use mathlib.Core.List.{List, [], _∷_, _++_, append-assoc, map}
 use mathlib.Core.Logic.{_⊎_, inl, inr, ⊎-elim}
-use lib.Dec.{T, ltb, eqb·suc-zero}
+use lib.Dec.{T, ltb}
 use lib.ListN.{length, take}
 use Rattle.numbers.specs.Names.{Later, Char, one, two, three, four, Name, none, more}
-use Rattle.numbers.specs.Text.{Row, table, among, firstIn, step, onward, rest, text, goes, stop, spellingOf}
+use Rattle.numbers.specs.Text.{Range, _to_, Row, table, among, firstIn, Step, Next, Bad, step, onward, rest, text, goes, stop, spellingOf}
 use Rattle.numbers.specs.inside.Below.{Below}
 use Rattle.numbers.specs.declared.text.Spelling.{Spelling}
 use Rattle.numbers.specs.declared.text.Spelling.the-variants as spelling
-use Rattle.numbers.specs.declared.text.Step.{Step}
-use Rattle.numbers.specs.declared.text.Step.the-variants.{Next, Bad}
 use Rattle.numbers.proofs.TextChunks.{side}
 use Rattle.numbers.proofs.TextRows.{among-in, among-low, among-high, ends, nth, found}
 use Rattle.numbers.proofs.Impossible.{impossible}
 
 -- ---- bytes below 128
 
-ascii-rest : (low high : ℕ) (s : List ℕ) → Below 0x80 s 0 (length s) → rest 0 low high s ≡ true
+ascii-rest : (s : List ℕ) → Below 0x80 s 0 (length s) → rest [] s ≡ true
 unfolding rest step
-ascii-rest low high [] all = refl
-ascii-rest low high (b ∷ s) all =
+ascii-rest [] all = refl
+ascii-rest (b ∷ s) all =
     rw (found 0 b tt tt (omega arith) (omega (arith, all 0 (omega arith) (omega arith))))
-    (ascii-rest 0x80 0xbf s (λ k p q. all (suc k) (omega arith) (omega arith)))
+    (ascii-rest s (λ k p q. all (suc k) (omega arith) (omega arith)))
 
 pub ascii-text : (s : List ℕ) → Below 0x80 s 0 (length s) → text s ≡ true
 unfolding text
-ascii-text s all = ascii-rest 0x80 0xbf s all
+ascii-text s all = ascii-rest s all
 
 -- ---- a name of the core document is text
 
 -- a first byte of the table's row k
-row-rest : (k b : ℕ) (s : List ℕ) → T (ltb k (length table)) → T (ends k table (nth k .from)) → nth k .from ≤ b → b ≤ nth k .to
-    → rest 0 0x80 0xbf (b ∷ s) ≡ rest (nth k .follow) (nth k .low) (nth k .high) s
+row-rest : (k b : ℕ) (s : List ℕ) → T (ltb k (length table)) → T (ends k table (nth k .first .low)) → nth k .first .low ≤ b
+    → b ≤ nth k .first .high → rest [] (b ∷ s) ≡ rest (nth k .later) s
 unfolding rest step
 row-rest k b s l t p q = rw (found k b l t p q)
 
 -- a byte after the first
-pub later-rest : (need low high b : ℕ) (s : List ℕ) → low ≤ b → b ≤ high → rest (suc need) low high (b ∷ s) ≡ rest need 0x80 0xbf s
+pub later-rest : (r : Range) (rs : List Range) (b : ℕ) (s : List ℕ) → r .low ≤ b → b ≤ r .high → rest (r ∷ rs) (b ∷ s) ≡ rest rs s
 unfolding rest step
-later-rest need low high b s p q = rw (among-in low high b p q)
+later-rest r rs b s p q = rw (among-in r b p q)
 
 -- the bytes of a character of two, three or four from the second on
-tail₂ : (low high b₂ : ℕ) (s : List ℕ) → low ≤ b₂ → b₂ ≤ high → rest 1 low high (b₂ ∷ s) ≡ rest 0 0x80 0xbf s
-tail₂ low high b₂ s p q = later-rest 0 low high b₂ s p q
+tail₂ : (low high b₂ : ℕ) (s : List ℕ) → low ≤ b₂ → b₂ ≤ high → rest (low to high ∷ []) (b₂ ∷ s) ≡ rest [] s
+tail₂ low high b₂ s p q = later-rest (low to high) [] b₂ s p q
 
-tail₃ : (low high b₂ b₃ : ℕ) (s : List ℕ) → low ≤ b₂ → b₂ ≤ high → Later b₃ → rest 2 low high (b₂ ∷ b₃ ∷ s) ≡ rest 0 0x80 0xbf s
-tail₃ low high b₂ b₃ s p q r = later-rest 1 low high b₂ (b₃ ∷ s) p q ∙ tail₂ 0x80 0xbf b₃ s (omega arith) (omega arith)
+tail₃ : (low high b₂ b₃ : ℕ) (s : List ℕ) → low ≤ b₂ → b₂ ≤ high → Later b₃
+    → rest (low to high ∷ 0x80 to 0xbf ∷ []) (b₂ ∷ b₃ ∷ s) ≡ rest [] s
+tail₃ low high b₂ b₃ s p q r =
+    later-rest (low to high) (0x80 to 0xbf ∷ []) b₂ (b₃ ∷ s) p q ∙ tail₂ 0x80 0xbf b₃ s (omega arith) (omega arith)
 
 tail₄ : (low high b₂ b₃ b₄ : ℕ) (s : List ℕ) → low ≤ b₂ → b₂ ≤ high → Later b₃ → Later b₄
-    → rest 3 low high (b₂ ∷ b₃ ∷ b₄ ∷ s) ≡ rest 0 0x80 0xbf s
+    → rest (low to high ∷ 0x80 to 0xbf ∷ 0x80 to 0xbf ∷ []) (b₂ ∷ b₃ ∷ b₄ ∷ s) ≡ rest [] s
 tail₄ low high b₂ b₃ b₄ s p q r t =
-    later-rest 2 low high b₂ (b₃ ∷ b₄ ∷ s) p q ∙ tail₃ 0x80 0xbf b₃ b₄ s (omega arith) (omega arith) t
+    later-rest (low to high) (0x80 to 0xbf ∷ 0x80 to 0xbf ∷ []) b₂ (b₃ ∷ b₄ ∷ s) p q ∙ tail₃ 0x80 0xbf b₃ b₄ s (omega arith) (omega arith) t
 
 -- a character: the first byte tells its row, and its number bounds the second byte
-char-rest : {c : ℕ} {u : List ℕ} → Char c u → (s : List ℕ) → rest 0 0x80 0xbf (u ++ s) ≡ rest 0 0x80 0xbf s
+char-rest : {c : ℕ} {u : List ℕ} → Char c u → (s : List ℕ) → rest [] (u ++ s) ≡ rest [] s
 char-rest (one {c} {b} h e) s = row-rest 0 b s tt tt (omega arith) (omega arith)
 char-rest (two {c} {b₁} {b₂} h e p q) s =
     row-rest 1 b₁ (b₂ ∷ s) tt tt (omega arith) (omega arith) ∙ tail₂ 0x80 0xbf b₂ s (omega arith) (omega arith)
@@ -92,14 +92,14 @@ text-complete _ (more {c} {u} {s} ch n) = char-rest ch s ∙ text-complete s n
 
 -- ---- text is a name of the core document
 
--- `need` bytes, the first of them in low..high, and then a name
-data Rest : ℕ → ℕ → ℕ → List ℕ → Type 0 where
-  done : {low high : ℕ} {s : List ℕ} → Name s → Rest 0 low high s
-  next : {need low high b : ℕ} {s : List ℕ} → low ≤ b → b ≤ high → Rest need 0x80 0xbf s → Rest (suc need) low high (b ∷ s)
+-- bytes in these ranges, and then a name
+data Rest : List Range → List ℕ → Type 0 where
+  done : {s : List ℕ} → Name s → Rest [] s
+  next : {low high b : ℕ} {rs : List Range} {s : List ℕ} → low ≤ b → b ≤ high → Rest rs s → Rest (low to high ∷ rs) (b ∷ s)
 
 -- what a row lets through is a character
 abbrev Right : Row → Type 0
-Right r = (b : ℕ) (s : List ℕ) → r .from ≤ b → b ≤ r .to → Rest (r .follow) (r .low) (r .high) s → Name (b ∷ s)
+Right r = (b : ℕ) (s : List ℕ) → r .first .low ≤ b → b ≤ r .first .high → Rest (r .later) s → Name (b ∷ s)
 
 right₁ : Right (nth 0)
 right₁ b s p q (done n) = more (one {c = b} (omega arith) refl) n
@@ -117,14 +117,14 @@ In₄ c = (0x10000 ≤ c) × (c < 0x110000)
 
 right₃ : (low high b₁ : ℕ) (s : List ℕ) → 0xe0 ≤ b₁ → 0x80 ≤ low → high < 0xc0
     → ((b₂ b₃ : ℕ) → low ≤ b₂ → b₂ ≤ high → Later b₃ → In₃ (2 ^ 12 * (b₁ - 0xe0) + 2 ^ 6 * (b₂ - 0x80) + (b₃ - 0x80)))
-    → Rest 2 low high s → Name (b₁ ∷ s)
+    → Rest (low to high ∷ 0x80 to 0xbf ∷ []) s → Name (b₁ ∷ s)
 right₃ low high b₁ _ p q r within (next {b = b₂} l h (next {b = b₃} l₃ h₃ (done n))) =
     more (three (within b₂ b₃ l h (l₃, omega arith)) refl p (omega arith, omega arith) (l₃, omega arith)) n
 
 right₄ : (low high b₁ : ℕ) (s : List ℕ) → 0xf0 ≤ b₁ → 0x80 ≤ low → high < 0xc0
     → ((b₂ b₃ b₄ : ℕ) → low ≤ b₂ → b₂ ≤ high → Later b₃ → Later b₄
     → In₄ (2 ^ 18 * (b₁ - 0xf0) + 2 ^ 12 * (b₂ - 0x80) + 2 ^ 6 * (b₃ - 0x80) + (b₄ - 0x80)))
-    → Rest 3 low high s → Name (b₁ ∷ s)
+    → Rest (low to high ∷ 0x80 to 0xbf ∷ 0x80 to 0xbf ∷ []) s → Name (b₁ ∷ s)
 right₄ low high b₁ _ p q r within (next {b = b₂} l h (next {b = b₃} l₃ h₃ (next {b = b₄} l₄ h₄ (done n)))) =
     more (four (within b₂ b₃ b₄ l h (l₃, omega arith) (l₄, omega arith)) refl p (omega arith, omega arith) (l₃, omega arith) (l₄, omega arith)) n
 
@@ -148,34 +148,34 @@ rights =
     also no-more
 
 -- a first byte, row by row
-first-name : (rs : List Row) → Rights rs → (b : ℕ) (s : List ℕ) → ((n l h : ℕ) → rest n l h s ≡ true → Rest n l h s)
-    → onward false (firstIn rs b) (λ n l h. rest n l h s) ≡ true → Name (b ∷ s)
+first-name : (rs : List Row) → Rights rs → (b : ℕ) (s : List ℕ) → ((more : List Range) → rest more s ≡ true → Rest more s)
+    → onward false (firstIn rs b) (λ more. rest more s) ≡ true → Name (b ∷ s)
 first-name [] no-more b s sound e = impossible cc
-first-name (r ∷ rs) (_ by x also xs) b s sound e = go (among (r .from) (r .to) b) refl e (λ f. first-name rs xs b s sound f)
+first-name (r ∷ rs) (_ by x also xs) b s sound e = go (among (r .first) b) refl e (λ f. first-name rs xs b s sound f)
   where
-    go : (t : Bool) → among (r .from) (r .to) b ≡ t
-        → onward false (cond t (Next (r .follow) (r .low) (r .high)) (firstIn rs b)) (λ n l h. rest n l h s) ≡ true
-        → (onward false (firstIn rs b) (λ n l h. rest n l h s) ≡ true → Name (b ∷ s)) → Name (b ∷ s)
-    go true a f later = x b s (among-low (r .from) (r .to) b a) (among-high (r .from) (r .to) b a) (sound (r .follow) (r .low) (r .high) f)
+    go : (t : Bool) → among (r .first) b ≡ t
+        → onward false (cond t (Next (r .later)) (firstIn rs b)) (λ more. rest more s) ≡ true
+        → (onward false (firstIn rs b) (λ more. rest more s) ≡ true → Name (b ∷ s)) → Name (b ∷ s)
+    go true a f later = x b s (among-low (r .first) b a) (among-high (r .first) b a) (sound (r .later) f)
     go false a f later = later f
 
-rest-sound : (need low high : ℕ) (s : List ℕ) → rest need low high s ≡ true → Rest need low high s
+rest-sound : (rs : List Range) (s : List ℕ) → rest rs s ≡ true → Rest rs s
 unfolding rest step
-rest-sound zero low high [] e = done none
-rest-sound (suc need) low high [] e = let z : _≡_ {A = ℕ} 0 1 = cc (eqb·suc-zero need) in absurd (omega arith)
-rest-sound zero low high (b ∷ s) e = done (first-name table rights b s (λ n l h f. rest-sound n l h s f) e)
-rest-sound (suc need) low high (b ∷ s) e = go (among low high b) refl e (λ f. rest-sound need 0x80 0xbf s f)
+rest-sound [] [] e = done none
+rest-sound (r ∷ rs) [] e = impossible cc
+rest-sound [] (b ∷ s) e = done (first-name table rights b s (λ more f. rest-sound more s f) e)
+rest-sound (r ∷ rs) (b ∷ s) e = go (among r b) refl e (λ f. rest-sound rs s f)
   where
-    go : (t : Bool) → among low high b ≡ t → onward false (cond t (Next need 0x80 0xbf) Bad) (λ n l h. rest n l h s) ≡ true
-        → (rest need 0x80 0xbf s ≡ true → Rest need 0x80 0xbf s) → Rest (suc need) low high (b ∷ s)
-    go true a f later = next (among-low low high b a) (among-high low high b a) (later f)
+    go : (t : Bool) → among r b ≡ t → onward false (cond t (Next rs) Bad) (λ more. rest more s) ≡ true
+        → (rest rs s ≡ true → Rest rs s) → Rest (r ∷ rs) (b ∷ s)
+    go true a f later = next (among-low r b a) (among-high r b a) (later f)
     go false a f later = impossible cc
 
 pub text-sound : (s : List ℕ) → text s ≡ true → Name s
 unfolding text
-text-sound s e = name (rest-sound 0 0x80 0xbf s e)
+text-sound s e = name (rest-sound [] s e)
   where
-    name : Rest 0 0x80 0xbf s → Name s
+    name : Rest [] s → Name s
     name (done n) = n
 
 -- ---- a text after a text
@@ -189,18 +189,18 @@ text-append a b p q = text-complete (a ++ b) (name-append (text-sound a p) (text
 
 -- ---- a name is text, or stops within itself
 
-goes-within : (need low high : ℕ) (s : List ℕ) → goes need low high s ≤ length s
+goes-within : (rs : List Range) (s : List ℕ) → goes rs s ≤ length s
 unfolding goes
-goes-within need low high [] = omega arith
-goes-within need low high (b ∷ s) = go (step need low high b) (λ n l h. goes-within n l h s)
+goes-within rs [] = omega arith
+goes-within rs (b ∷ s) = go (step rs b) (λ more. goes-within more s)
   where
-    go : (x : Step) → ((n l h : ℕ) → goes n l h s ≤ length s) → onward 0 x (λ n l h. suc (goes n l h s)) ≤ suc (length s)
-    go (Next n l h) later = omega (arith, later n l h)
+    go : (x : Step) → ((more : List Range) → goes more s ≤ length s) → onward 0 x (λ more. suc (goes more s)) ≤ suc (length s)
+    go (Next on) later = omega (arith, later on)
     go Bad later = omega arith
 
 pub stop-within : (s : List ℕ) → stop s ≤ length s
 unfolding stop
-stop-within s = goes-within 0 0x80 0xbf s
+stop-within s = goes-within [] s
 
 pub spelled-right : (s : List ℕ) → text s ≡ true → spellingOf s ≡ spelling.Right
 unfolding spellingOf

@@ -1,16 +1,19 @@
--- Laws of the table, of `rest` and of `goes`: a first byte's row, a byte where some are to follow, and the rounds of a loop over the bytes.
-use Prim.Native.Nat.{ℕ, zero, suc, _+_, _-_, _≤_, _<_}
+-- Laws of the table, of `rest` and of `goes`: a first byte's row, a byte where some are to follow, and a sequence within a name.
+use Prim.Native.Nat.{ℕ, zero, suc, _+_, _≤_, _<_}
 use native.Mathlib.Omega.{arith}
 use native.Mathlib.Numerals.{add-one}
-use mathlib.Core.Path.{_≡_, refl, ap, sym, subst, _∙_}
-use mathlib.Core.Bool.{Bool, true, false, _&&_}
+use mathlib.Core.Path.{_≡_, refl, sym, subst, _∙_}
+use mathlib.Core.Bool.{Bool, true, false, cond, _&&_}
 use mathlib.Core.List.{List, [], _∷_}
-use lib.Dec.{T, eqb, leb, ltb, ltb→lt, leb→le}
+use lib.Dec.{T, leb, ltb, ltb→lt, leb→le}
 use lib.ListN.{length, drop, getD, drop-of-length-le}
 use lib.Seq.{drop-cons}
-use borrow.Author.Tests.{le-leb, lt-leb}
-use Rattle.numbers.specs.Text.{Row, row, table, among, firstIn, step, onward, rest, goes}
-use Rattle.numbers.specs.declared.text.Step.the-variants.{Next, Bad}
+use borrow.Author.Tests.{le-leb, lt-leb, ltb-true, ltb-false, lt-ltb, le-ltb}
+use Rattle.numbers.specs.Text.{Range, _to_, Row, row, table, among, firstIn, Step, Next, Bad, step, onward, rest, goes}
+use Rattle.numbers.specs.inside.Sequences.{follows, Ends}
+use Rattle.numbers.specs.declared.text.Sequence.{Sequence}
+use Rattle.numbers.specs.declared.text.Sequence.the-variants.{Whole, Breaks}
+use Rattle.numbers.proofs.Impossible.{impossible}
 
 -- ---- a byte in low..high
 
@@ -26,20 +29,20 @@ and-false : (a : Bool) → (a && false) ≡ false
 and-false true = refl
 and-false false = refl
 
-pub among-in : (low high b : ℕ) → low ≤ b → b ≤ high → among low high b ≡ true
-among-in low high b p q = simp (le-leb low b p, le-leb b high q)
+pub among-in : (r : Range) (b : ℕ) → r .low ≤ b → b ≤ r .high → among r b ≡ true
+among-in r b p q = simp (le-leb (r .low) b p, le-leb b (r .high) q)
 
-pub among-above : (low high b : ℕ) → high < b → among low high b ≡ false
-among-above low high b q = rw (lt-leb b high q) (and-false (leb low b))
+pub among-above : (r : Range) (b : ℕ) → r .high < b → among r b ≡ false
+among-above r b q = rw (lt-leb b (r .high) q) (and-false (leb (r .low) b))
 
-pub among-below : (low high b : ℕ) → b < low → among low high b ≡ false
-among-below low high b p = simp (lt-leb low b p)
+pub among-below : (r : Range) (b : ℕ) → b < r .low → among r b ≡ false
+among-below r b p = simp (lt-leb (r .low) b p)
 
-pub among-low : (low high b : ℕ) → among low high b ≡ true → low ≤ b
-among-low low high b e = leb→le low b (and-left (leb low b) (leb b high) (subst T (sym e) tt))
+pub among-low : (r : Range) (b : ℕ) → among r b ≡ true → r .low ≤ b
+among-low r b e = leb→le (r .low) b (and-left (leb (r .low) b) (leb b (r .high)) (subst T (sym e) tt))
 
-pub among-high : (low high b : ℕ) → among low high b ≡ true → b ≤ high
-among-high low high b e = leb→le b high (and-right (leb low b) (leb b high) (subst T (sym e) tt))
+pub among-high : (r : Range) (b : ℕ) → among r b ≡ true → b ≤ r .high
+among-high r b e = leb→le b (r .high) (and-right (leb (r .low) b) (leb b (r .high)) (subst T (sym e) tt))
 
 -- ---- a first byte's row
 
@@ -47,37 +50,37 @@ among-high low high b e = leb→le b high (and-right (leb low b) (leb b high) (s
 abbrev pub ends : ℕ → List Row → ℕ → Bool
 ends zero rs m = true
 ends (suc k) [] m = true
-ends (suc k) (r ∷ rs) m = ltb (r .to) m && ends k rs m
+ends (suc k) (r ∷ rs) m = ltb (r .first .high) m && ends k rs m
 
 abbrev pub starts : List Row → ℕ → Bool
 starts [] m = true
-starts (r ∷ rs) m = leb m (r .from) && starts rs m
+starts (r ∷ rs) m = leb m (r .first .low) && starts rs m
 
 pass : (k : ℕ) (rs : List Row) (m b : ℕ) → T (ends k rs m) → m ≤ b → firstIn rs b ≡ firstIn (drop k rs) b
 pass zero rs m b t h = refl
 pass (suc k) [] m b t h = refl
 pass (suc k) (r ∷ rs) m b t h =
-    let q : r .to < m = ltb→lt (r .to) m (and-left (ltb (r .to) m) (ends k rs m) t) in
-    rw (among-above (r .from) (r .to) b (omega arith)) (pass k rs m b (and-right (ltb (r .to) m) (ends k rs m) t) h)
+    let q : r .first .high < m = ltb→lt (r .first .high) m (and-left (ltb (r .first .high) m) (ends k rs m) t) in
+    rw (among-above (r .first) b (omega arith)) (pass k rs m b (and-right (ltb (r .first .high) m) (ends k rs m) t) h)
 
 none : (rs : List Row) (m b : ℕ) → T (starts rs m) → b < m → firstIn rs b ≡ Bad
 none [] m b t h = refl
 none (r ∷ rs) m b t h =
-    let q : m ≤ r .from = leb→le m (r .from) (and-left (leb m (r .from)) (starts rs m) t) in
-    rw (among-below (r .from) (r .to) b (omega arith)) (none rs m b (and-right (leb m (r .from)) (starts rs m) t) h)
+    let q : m ≤ r .first .low = leb→le m (r .first .low) (and-left (leb m (r .first .low)) (starts rs m) t) in
+    rw (among-below (r .first) b (omega arith)) (none rs m b (and-right (leb m (r .first .low)) (starts rs m) t) h)
 
-hit : (r : Row) (rs : List Row) (b : ℕ) → r .from ≤ b → b ≤ r .to → firstIn (r ∷ rs) b ≡ Next (r .follow) (r .low) (r .high)
-hit r rs b p q = rw (among-in (r .from) (r .to) b p q)
+hit : (r : Row) (rs : List Row) (b : ℕ) → r .first .low ≤ b → b ≤ r .first .high → firstIn (r ∷ rs) b ≡ Next (r .later)
+hit r rs b p q = rw (among-in (r .first) b p q)
 
 abbrev pub nth : ℕ → Row
-nth k = getD table k (row 0 0 0 0 0)
+nth k = getD table k (row (0 to 0) [])
 
 -- the table's row k is the byte's
-pub found : (k : ℕ) (b : ℕ) → T (ltb k (length table)) → T (ends k table (nth k .from)) → nth k .from ≤ b → b ≤ nth k .to
-    → firstIn table b ≡ Next (nth k .follow) (nth k .low) (nth k .high)
+pub found : (k : ℕ) (b : ℕ) → T (ltb k (length table)) → T (ends k table (nth k .first .low)) → nth k .first .low ≤ b → b ≤ nth k .first .high
+    → firstIn table b ≡ Next (nth k .later)
 found k b l t p q =
-    pass k table (nth k .from) b t p
-    ∙ rw (drop-cons table k (row 0 0 0 0 0) (ltb→lt k (length table) l)) (hit (nth k) (drop (suc k) table) b p q)
+    pass k table (nth k .first .low) b t p
+    ∙ rw (drop-cons table k (row (0 to 0) []) (ltb→lt k (length table) l)) (hit (nth k) (drop (suc k) table) b p q)
 
 -- the byte stands between the first k rows of the table and the others
 pub missed : (k m n : ℕ) (b : ℕ) → T (ends k table m) → T (starts (drop k table) n) → m ≤ b → b < n → firstIn table b ≡ Bad
@@ -85,56 +88,92 @@ missed k m n b t u p q = pass k table m b t p ∙ none (drop k table) n b u q
 
 -- ---- a byte where some are to follow
 
-pub step-first : (need low high b : ℕ) → need ≡ 0 → step need low high b ≡ firstIn table b
-unfolding step
-step-first need low high b e = rw e
+follow-here : (low high : ℕ) (s : List ℕ) (j : ℕ) → follows s j low high ≡ true → (j < length s) × (among (low to high) (getD s j 0) ≡ true)
+follow-here low high s j e = go (ltb j (length s)) refl e
+  where
+    go : (t : Bool) → ltb j (length s) ≡ t → (t && among (low to high) (getD s j 0)) ≡ true
+        → (j < length s) × (among (low to high) (getD s j 0) ≡ true)
+    go true l f = (ltb-true j (length s) l, f)
+    go false l f = impossible cc
 
-pub step-in : (need low high b : ℕ) → (need ≡ 0 → ⊥) → low ≤ b → b ≤ high → step need low high b ≡ Next (need - 1) 0x80 0xbf
-unfolding step
-step-in zero low high b z p q = absurd (z refl)
-step-in (suc need) low high b z p q = rw (among-in low high b p q) (ap (λ (n : ℕ). Next n 0x80 0xbf) (omega arith))
+follow-rest : (low high : ℕ) (rs : List Range) (s : List ℕ) (j : ℕ) → follows s j low high ≡ true
+    → rest (low to high ∷ rs) (drop j s) ≡ rest rs (drop (j + 1) s)
+unfolding rest step
+follow-rest low high rs s j e = let here = follow-here low high s j e in rw (drop-cons s j 0 (here .0), here .1, add-one)
 
-pub step-below : (need low high b : ℕ) → (need ≡ 0 → ⊥) → b < low → step need low high b ≡ Bad
-unfolding step
-step-below zero low high b z p = absurd (z refl)
-step-below (suc need) low high b z p = rw (among-below low high b p)
+follow-goes : (low high : ℕ) (rs : List Range) (s : List ℕ) (j : ℕ) → follows s j low high ≡ true
+    → goes (low to high ∷ rs) (drop j s) ≡ suc (goes rs (drop (j + 1) s))
+unfolding goes step
+follow-goes low high rs s j e = let here = follow-here low high s j e in rw (drop-cons s j 0 (here .0), here .1, add-one)
 
-pub step-above : (need low high b : ℕ) → (need ≡ 0 → ⊥) → high < b → step need low high b ≡ Bad
-unfolding step
-step-above zero low high b z p = absurd (z refl)
-step-above (suc need) low high b z p = rw (among-above low high b p)
+break-rest : (low high : ℕ) (rs : List Range) (s : List ℕ) (j : ℕ) → follows s j low high ≡ false
+    → rest (low to high ∷ rs) (drop j s) ≡ false
+unfolding rest step
+break-rest low high rs s j e = go (ltb j (length s)) refl e
+  where
+    go : (t : Bool) → ltb j (length s) ≡ t → (t && among (low to high) (getD s j 0)) ≡ false → rest (low to high ∷ rs) (drop j s) ≡ false
+    go true l f = rw (drop-cons s j 0 (ltb-true j (length s) l), f)
+    go false l f = rw (drop-of-length-le s (ltb-false j (length s) l))
 
--- ---- a round of a loop over the bytes
+break-goes : (low high : ℕ) (rs : List Range) (s : List ℕ) (j : ℕ) → follows s j low high ≡ false
+    → goes (low to high ∷ rs) (drop j s) ≡ 0
+unfolding goes step
+break-goes low high rs s j e = go (ltb j (length s)) refl e
+  where
+    go : (t : Bool) → ltb j (length s) ≡ t → (t && among (low to high) (getD s j 0)) ≡ false → goes (low to high ∷ rs) (drop j s) ≡ 0
+    go true l f = rw (drop-cons s j 0 (ltb-true j (length s) l), f)
+    go false l f = rw (drop-of-length-le s (ltb-false j (length s) l))
 
-round : (need low high : ℕ) (s : List ℕ) (i : ℕ) → i < length s
-    → rest need low high (drop i s) ≡ onward false (step need low high (getD s i 0)) (λ n l h. rest n l h (drop (suc i) s))
+-- ---- a sequence that begins at i
+
+-- a step from j to k, of one byte
+onwards : (ps rs : List Range) (s : List ℕ) (j k i : ℕ) (r : Sequence) → k ≡ j + 1 → rest ps (drop j s) ≡ rest rs (drop k s)
+    → goes ps (drop j s) ≡ suc (goes rs (drop k s)) → Ends rs s k i r → Ends ps s j i r
+onwards ps rs s j k i (Whole n) h p q w = (w .0, (p ∙ w .1 .0, omega (arith, w .1 .1)))
+onwards ps rs s j k i (Breaks n) h p q w = (p ∙ w .0, omega (arith, w .1))
+
+-- its byte at j follows, or breaks it, or its last byte is before j
+pub took : (low high : ℕ) (rs : List Range) (s : List ℕ) (j k i : ℕ) (r : Sequence) → follows s j low high ≡ true → k ≡ j + 1
+    → Ends rs s k i r → Ends (low to high ∷ rs) s j i r
+took low high rs s j k i r e h w =
+    onwards (low to high ∷ rs) rs s j k i r h (rw h (follow-rest low high rs s j e)) (rw h (follow-goes low high rs s j e)) w
+
+pub broke : (low high : ℕ) (rs : List Range) (s : List ℕ) (j i n : ℕ) → follows s j low high ≡ false → i + n ≡ j
+    → Ends (low to high ∷ rs) s j i (Breaks n)
+broke low high rs s j i n e h = (break-rest low high rs s j e, omega (arith, break-goes low high rs s j e))
+
+pub whole : (s : List ℕ) (j i n : ℕ) → i + n ≡ j → j ≤ length s → 1 ≤ n → Ends [] s j i (Whole n)
+whole s j i n h w l = ((l, omega arith), (rw h refl, rw h refl))
+
+pub follow-within : (low high : ℕ) (s : List ℕ) (j : ℕ) → follows s j low high ≡ true → j < length s
+follow-within low high s j e = follow-here low high s j e .0
+
+-- its first byte, by the table
+pub began : (rs : List Range) (s : List ℕ) (i : ℕ) (r : Sequence) → i < length s → firstIn table (getD s i 0) ≡ Next rs
+    → Ends rs s (i + 1) i r → Ends [] s i i r
+unfolding rest goes step
+began rs s i r h e w =
+    onwards [] rs s i (i + 1) i r refl (rw (drop-cons s i 0 h, e, add-one) refl) (rw (drop-cons s i 0 h, e, add-one) refl) w
+
+pub unbegun : (s : List ℕ) (i : ℕ) → i < length s → firstIn table (getD s i 0) ≡ Bad → Ends [] s i i (Breaks 0)
+unfolding rest goes step
+unbegun s i h e = (rw (drop-cons s i 0 h, e) refl, rw (drop-cons s i 0 h, e) refl)
+
+-- the name's end
+pub ended : (s : List ℕ) (i : ℕ) → length s ≤ i → rest [] (drop i s) ≡ true
 unfolding rest
-round need low high s i h = rw (drop-cons s i 0 h)
+ended s i h = rw (drop-of-length-le s h)
 
-pub round-bad : (need low high : ℕ) (s : List ℕ) (i : ℕ) → i < length s → step need low high (getD s i 0) ≡ Bad
-    → rest need low high (drop i s) ≡ false
-round-bad need low high s i h e = round need low high s i h ∙ rw e
+-- ---- a byte at k in low..high
 
-pub round-next : (need low high : ℕ) (s : List ℕ) (i n l k : ℕ) → i < length s → step need low high (getD s i 0) ≡ Next n l k
-    → rest need low high (drop i s) ≡ rest n l k (drop (i + 1) s)
-round-next need low high s i n l k h e = round need low high s i h ∙ rw (e, add-one)
+pub follow-past : (low high : ℕ) (s : List ℕ) (k : ℕ) → length s ≤ k → follows s k low high ≡ false
+follow-past low high s k h = rw (le-ltb k (length s) h)
 
-pub rounds-end : (need low high : ℕ) (s : List ℕ) (i : ℕ) → length s ≤ i → rest need low high (drop i s) ≡ eqb need 0
-unfolding rest
-rounds-end need low high s i h = rw (drop-of-length-le s h)
+pub follow-below : (low high : ℕ) (s : List ℕ) (k : ℕ) → getD s k 0 < low → follows s k low high ≡ false
+follow-below low high s k h = rw (among-below (low to high) (getD s k 0) h) (and-false (ltb k (length s)))
 
--- ---- a round of the loop that counts the bytes
+pub follow-last : (low high : ℕ) (s : List ℕ) (k : ℕ) → k < length s → low ≤ getD s k 0 → follows s k low high ≡ leb (getD s k 0) high
+follow-last low high s k h p = rw (lt-ltb k (length s) h, le-leb low (getD s k 0) p)
 
-pub count-bad : (need low high : ℕ) (s : List ℕ) (i : ℕ) → i < length s → step need low high (getD s i 0) ≡ Bad
-    → goes need low high (drop i s) ≡ 0
-unfolding goes
-count-bad need low high s i h e = rw (drop-cons s i 0 h, e)
-
-pub count-next : (need low high : ℕ) (s : List ℕ) (i n l k : ℕ) → i < length s → step need low high (getD s i 0) ≡ Next n l k
-    → goes need low high (drop i s) ≡ suc (goes n l k (drop (i + 1) s))
-unfolding goes
-count-next need low high s i n l k h e = rw (drop-cons s i 0 h, e, add-one)
-
-pub count-end : (need low high : ℕ) (s : List ℕ) (i : ℕ) → length s ≤ i → goes need low high (drop i s) ≡ 0
-unfolding goes
-count-end need low high s i h = rw (drop-of-length-le s h)
+pub follow-in : (low high : ℕ) (s : List ℕ) (k : ℕ) → k < length s → low ≤ getD s k 0 → getD s k 0 ≤ high → follows s k low high ≡ true
+follow-in low high s k h p q = follow-last low high s k h p ∙ le-leb (getD s k 0) high q
