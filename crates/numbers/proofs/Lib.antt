@@ -2,7 +2,7 @@ mod Reading
 mod Shortest
 mod TextChunks
 mod TextRows
-mod TextRuns
+mod TextWindows
 mod ThreeBytes
 mod Vectors
 pub mod AgainLaws

@@ -1,4 +1,4 @@
 pub mod Below
 pub mod Over
-pub mod Runs
 pub mod Sequences
+pub mod Windows

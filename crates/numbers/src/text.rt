@@ -3,11 +3,11 @@ ghost use mathlib.Core.Bool.{true};
 ghost use mathlib.Core.Path.{_≡_};
 ghost use mathlib.Core.List.{[], _∷_};
 ghost use mathlib.Core.Logic.{_⊎_};
-ghost use Prim.Native.Nat.{_+_, _*_, _≤_, _<_};
-ghost use lib.ListN.{length};
+ghost use Prim.Native.Nat.{_+_, _-_, _≤_, _<_};
+ghost use lib.ListN.{length, getD};
 ghost use Rattle.numbers.specs.inside.Below.{Below};
-ghost use Rattle.numbers.specs.inside.Runs.{Run, Two, Three};
 ghost use Rattle.numbers.specs.inside.Sequences.{follows, Ends};
+ghost use Rattle.numbers.specs.inside.Windows.{All, Begun, Ended, First, Known, Later, Placed, Windows};
 ghost use Rattle.numbers.specs.Text.{_to_, spellingOf, text};
 
 // What a name is.
@@ -201,136 +201,204 @@ fn lesser(a: usize, b: usize) -> usize
     b
 }
 
-// Below 16 only where b is in c2..df.
-fn first_of_two(b: u8) -> u8
-    ensures { λ r. ⌜ (r < 16 → (0xc2 ≤ b) × (b ≤ 0xdf)) ⌝ }
+fn largest(a: u8, b: u8, c: u8) -> u8
+    ensures { λ r. ⌜ (a ≤ r) × ((b ≤ r) × (c ≤ r)) ⌝ }
 {
-    std::num::wrapping_sub_u8(b, 0xc2) / 2 + 1
+    larger(a, larger(b, c))
 }
 
-// Below 16 only where b is in e1..ec.
-fn first_of_three(b: u8) -> u8
-    ensures { λ r. ⌜ (r < 16 → (0xe1 ≤ b) × (b ≤ 0xec)) ⌝ }
+// How far a is above the bound.
+fn over(a: u8, bound: u8) -> u8
+    ensures { λ r. ⌜ r ≡ a - bound ⌝ }
 {
-    std::num::wrapping_sub_u8(b, 0xe1) / 2 + 10
+    if a < bound {
+        return 0;
+    }
+    a - bound
 }
 
-// Below 16 only where b is in 80..bf.
+// 0 exactly where no byte is to follow q and p: p begins no character of more bytes than one, and q none of three.
+fn due(q: u8, p: u8) -> u8
+    ensures { λ r. ⌜ (r < 1 → (p < 0xc2) × (q < 0xe1)) × (p < 0xc2 → q < 0xe1 → r < 1) ⌝ }
+{
+    if 0 < over(p, 0xc1) + over(q, 0xe0) {
+        return 255;
+    }
+    0
+}
+
+// 0 exactly where b is not in 80..bf.
 fn later(b: u8) -> u8
-    ensures { λ r. ⌜ (r < 16 → (0x80 ≤ b) × (b ≤ 0xbf)) ⌝ }
+    ensures { λ r. ⌜ (r < 1 → (b < 0x80) ⊎ (0xc0 ≤ b)) × (0 < r → Later b) ⌝ }
 {
-    std::num::wrapping_sub_u8(b, 0x80) / 4
+    if b < 0x80 {
+        return 0;
+    }
+    if 0xbf < b {
+        return 0;
+    }
+    255
 }
 
-// Below 16 only where the bytes from `from` on are n characters of two bytes.
-fn twos(s: &[u8], from: usize, n: usize) -> u8
-    requires { ⌜ from + 2 * n ≤ length (now s) ⌝ }
-    ensures { λ r. ⌜ (r < 16 → Run Two 2 (now (s .entry)) from n) ⌝ }
+// 0 only where b is in 80..bf exactly if a byte is to follow q and p.
+fn misplaced(q: u8, p: u8, b: u8) -> u8
+    ensures { λ r. ⌜ (r < 1 → Placed q p b) ⌝ }
 {
-    let mut high: u8 = 0;
-    let mut k: usize = 0;
-    while k < n {
-        high = larger(
-            high,
-            larger(first_of_two(s[from + 2 * k]), later(s[from + 2 * k + 1])),
-        );
-        k += 1;
+    if due(q, p) == later(b) {
+        return 0;
     }
-    high
+    255
 }
 
-// Below 16 only where they are n characters of three bytes, of the table's row e1..ec.
-fn threes(s: &[u8], from: usize, n: usize) -> u8
-    requires { ⌜ from + 3 * n ≤ length (now s) ⌝ }
-    ensures { λ r. ⌜ (r < 16 → Run Three 3 (now (s .entry)) from n) ⌝ }
+// 0 only where none of the three is c0, c1, e0 or above ec.
+fn unknown(a: u8, b: u8, c: u8) -> u8
+    ensures { λ r. ⌜ (r < 1 → Known a × (Known b × Known c)) ⌝ }
 {
-    let mut high: u8 = 0;
-    let mut k: usize = 0;
-    while k < n {
-        high = larger(
-            high,
-            larger(
-                first_of_three(s[from + 3 * k]),
-                larger(later(s[from + 3 * k + 1]), later(s[from + 3 * k + 2])),
-            ),
-        );
-        k += 1;
-    }
-    high
-}
-
-// Whether the name is 4 to 16 characters of two bytes, by four chunks that may overlap.
-fn all_twos(name: &[u8]) -> bool
-    requires { ⌜ 8 ≤ length (now name) ⌝ }
-    ensures { λ r. ⌜ (r ≡ true → text (now (name .entry)) ≡ true) ⌝ }
-{
-    let len = name.len();
-    if 32 < len {
-        return false;
-    }
-    let front = larger(twos(name, 0, 4), twos(name, lesser(8, len - 8), 4));
-    let back = larger(twos(name, lesser(16, len - 8), 4), twos(name, len - 8, 4));
-    if larger(front, back) < 16 {
-        return len % 2 == 0;
-    }
-    false
-}
-
-// Whether it is 4 to 16 characters of three bytes, likewise.
-fn all_threes(name: &[u8]) -> bool
-    ensures { λ r. ⌜ (r ≡ true → text (now (name .entry)) ≡ true) ⌝ }
-{
-    let len = name.len();
-    if 48 < len {
-        return false;
-    }
-    if len < 12 {
-        return false;
-    }
-    let front = larger(threes(name, 0, 4), threes(name, lesser(12, len - 12), 4));
-    let back = larger(
-        threes(name, lesser(24, len - 12), 4),
-        threes(name, len - 12, 4),
+    let from_c2 = largest(
+        std::num::wrapping_sub_u8(a, 0xc2),
+        std::num::wrapping_sub_u8(b, 0xc2),
+        std::num::wrapping_sub_u8(c, 0xc2),
     );
-    if larger(front, back) < 16 {
-        return len % 3 == 0;
-    }
-    false
+    let from_e1 = largest(
+        std::num::wrapping_sub_u8(a, 0xe1),
+        std::num::wrapping_sub_u8(b, 0xe1),
+        std::num::wrapping_sub_u8(c, 0xe1),
+    );
+    let high = largest(a, b, c);
+    largest(over(high, 0xec), over(from_c2, 0xfd), over(from_e1, 0xfe))
 }
 
-// Whether it is seen to be characters of as many bytes each as the first.
-fn alike(name: &[u8]) -> bool
-    ensures { λ r. ⌜ (r ≡ true → text (now (name .entry)) ≡ true) ⌝ }
+// The same of the three bytes from i on.
+fn misplaced_at(s: &[u8], i: usize) -> u8
+    requires { ⌜ i + 2 < length (now s) ⌝ }
+    ensures { λ r. ⌜ (r < 1 → Placed (getD (now (s .entry)) i 0) (getD (now (s .entry)) (i + 1) 0) (getD (now (s .entry)) (i + 2) 0)) ⌝ }
 {
-    if name.len() < 8 {
-        return false;
+    misplaced(s[i], s[i + 1], s[i + 2])
+}
+
+// 0 only where the n windows of three bytes from h on are right, and those from i and from j on.
+fn windows(s: &[u8], h: usize, i: usize, j: usize, n: usize) -> u8
+    requires { ⌜ h + n + 2 ≤ length (now s) ⌝ }
+    requires { ⌜ i + n + 2 ≤ length (now s) ⌝ }
+    requires { ⌜ j + n + 2 ≤ length (now s) ⌝ }
+    ensures { λ r. ⌜ (r < 1 → Windows (now (s .entry)) h n × (Windows (now (s .entry)) i n × Windows (now (s .entry)) j n)) ⌝ }
+{
+    let mut high: u8 = 0;
+    let mut k: usize = 0;
+    while k < n {
+        let place = largest(
+            misplaced_at(s, h + k),
+            misplaced_at(s, i + k),
+            misplaced_at(s, j + k),
+        );
+        high = largest(
+            high,
+            place,
+            unknown(s[h + k + 2], s[i + k + 2], s[j + k + 2]),
+        );
+        k += 1;
     }
-    match name[0] {
-        0xc2..=0xdf => all_twos(name),
-        0xe1..=0xec => all_threes(name),
+    high
+}
+
+// 0 only where all windows of the name are right, by chunks of 16 or 8 that may overlap.
+fn all_windows(s: &[u8]) -> u8
+    requires { ⌜ 10 ≤ length (now s) ⌝ }
+    requires { ⌜ length (now s) ≤ 50 ⌝ }
+    ensures { λ r. ⌜ (r < 1 → All (now (s .entry))) ⌝ }
+{
+    let len = s.len();
+    if 18 <= len {
+        return windows(s, 0, lesser(16, len - 18), len - 18, 16);
+    }
+    windows(s, 0, 0, len - 10, 8)
+}
+
+// Whether it is a byte that begins a character, of one byte, of two, or of three in the table's row e1..ec.
+fn is_first(b: u8) -> bool
+    ensures { λ r. ⌜ (r ≡ true → First b) ⌝ }
+{
+    match b {
+        0x00..=0x7f => true,
+        0xc2..=0xdf => true,
+        0xe1..=0xec => true,
         _ => false,
     }
+}
+
+// Whether the name's first two bytes, which end no window, are right.
+fn begins(s: &[u8]) -> bool
+    requires { ⌜ 2 ≤ length (now s) ⌝ }
+    ensures { λ r. ⌜ (r ≡ true → Begun (now (s .entry))) ⌝ }
+{
+    if is_first(s[0]) {
+        if s[0] < 0xc2 {
+            return is_first(s[1]);
+        }
+        return 0 < later(s[1]);
+    }
+    false
+}
+
+// Whether no byte is to follow the last.
+fn ends(s: &[u8]) -> bool
+    requires { ⌜ 2 ≤ length (now s) ⌝ }
+    ensures { λ r. ⌜ (r ≡ true → Ended (now (s .entry))) ⌝ }
+{
+    let len = s.len();
+    if 0xe0 < s[len - 2] {
+        return false;
+    }
+    s[len - 1] < 0xc2
+}
+
+// Whether a name of 10 to 50 bytes is seen to be characters of one, two and three bytes, in whatever order.
+fn by_windows(s: &[u8]) -> bool
+    ensures { λ r. ⌜ (r ≡ true → text (now (s .entry)) ≡ true) ⌝ }
+{
+    let len = s.len();
+    if len < 10 {
+        return false;
+    }
+    if 50 < len {
+        return false;
+    }
+    if 0 < all_windows(s) {
+        return false;
+    }
+    if ends(s) {
+        return begins(s);
+    }
+    false
+}
+
+// Whether it is well-formed UTF-8, by windows where they show it. Called from two places, it is compiled apart from `is_text`, so
+// that the way of ASCII names stays short.
+fn other_text(name: &[u8]) -> bool
+    ensures { λ r. ⌜ r ≡ text (now (name .entry)) ⌝ }
+{
+    if by_windows(&name[0..]) {
+        return true;
+    }
+    well_formed(&name[0..])
 }
 
 // Whether the name is well-formed UTF-8.
 pub fn is_text(name: &[u8]) -> bool
     ensures { λ r. ⌜ r ≡ text (now (name .entry)) ⌝ }
 {
-    if ascii(name) {
+    if ascii(&name[0..]) {
         return true;
     }
-    if alike(name) {
-        return true;
-    }
-    well_formed(name)
+    other_text(&name[0..])
 }
 
 // Whether the name is well-formed UTF-8, and where it stops if not.
 pub fn spelling_of(name: &[u8]) -> Spelling
     ensures { λ r. ⌜ r ≡ spellingOf (now (name .entry)) ⌝ }
 {
-    if is_text(name) {
+    if other_text(&name[0..]) {
         return Spelling::Right;
     }
-    spelled(name)
+    spelled(&name[0..])
 }

@@ -1,11 +1,17 @@
--- `numbers::text::later` meets its contract: what is no more than so far above the least is in the range.
+-- `numbers::text::later` meets its contract.
 use native.Mathlib.Omega.{arith}
-use borrow.Author.Needs.{needs}
+use mathlib.Core.Logic.{inl, inr}
 use Rattle.numbers.proofs.text.later.Statement.{statement}
 use Rattle.numbers.proofs.text.later.Tie as tie
 
 returns : tie.Need-returns
-returns c = λ l. (omega (arith, c .wrapping-sub-u8 .ensures), omega (arith, c .wrapping-sub-u8 .ensures))
+returns c = (λ l. inl (omega arith), λ l. absurd (omega arith))
+
+returns-2 : tie.Need-returns-2
+returns-2 c = (λ l. inr (omega arith), λ l. absurd (omega arith))
+
+returns-3 : tie.Need-returns-3
+returns-3 c = (λ l. absurd (omega arith), λ l. (omega arith, omega arith))
 
 pub later-spec : {M : Type 1} → statement M
-later-spec = tie.close (tie.spec (λ c. search needs) returns)
+later-spec = tie.close (tie.spec returns returns-2 returns-3)
