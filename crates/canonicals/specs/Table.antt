@@ -125,6 +125,10 @@ liftShape =
       last = field.Nothing;
     }
 
+-- lift as its bytes stand, the type last
+abbrev pub liftBytes : Shape
+liftBytes = manyOf (field.Fixed 0x00) (field.Fixed 0x00) field.Index field.Choice field.Nothing field.Index
+
 -- canon ::= 0x00 0x00 f:<core:funcidx> opts:<opts> ft:<typeidx> => (canon lift f opts type-index-space[ft])
 unfoldable pub lift : List ℕ → List ℕ
 lift ws = 0x00 ∷ 0x00 ∷ (unsigned (word ws 0) ++ (opts (drop 2 ws) ++ unsigned (word ws 1)))

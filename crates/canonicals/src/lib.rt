@@ -15,10 +15,10 @@ ghost use Rattle.fields.specs.Answers.{left};
 ghost use Rattle.writing.specs.Write.{stored};
 ghost use Rattle.canonicals.specs.Table.{plain, zeroed, optioned, table, liftShape, lift};
 ghost use Rattle.canonicals.specs.inside.Class.{shapeFor};
-ghost use Rattle.canonicals.specs.Write.{measuredCanonical, writeCanonical};
+ghost use Rattle.canonicals.specs.Write.{shapeOf, measuredCanonical, writeCanonical};
 
 // What a canonical other than lift has behind its lead.
-enum Class {
+pub enum Class {
     Nothing,
     // A byte 00.
     Zero,
@@ -74,7 +74,7 @@ fn optioned_of(lead: u8, zero: Field) -> Found
 }
 
 // The class of a kind other than lift: a line of the table for each.
-fn class_of(kind: u32) -> Class
+pub fn class_of(kind: u32) -> Class
     ensures { λ r. ⌜ shapeIn table kind ≡ shapeFor r (kind % 256) ⌝ }
 {
     match kind {
@@ -197,6 +197,16 @@ fn lift_shape() -> Shape
         two: Field::Nothing,
         last: Field::Nothing,
     }
+}
+
+// The shape of a kind.
+pub fn shape_of(kind: u32) -> Found
+    ensures { λ r. ⌜ r ≡ shapeOf kind ⌝ }
+{
+    if kind == 256 {
+        return Found::Is(lift_shape());
+    }
+    line_of(class_of(kind), (kind % 256) as u8)
 }
 
 // The size of a canonical row, or why it is refused, room apart.

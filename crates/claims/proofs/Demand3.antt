@@ -35,7 +35,7 @@ use Rattle.round_trip.specs.Padded.{Padded}
 use Rattle.round_trip.proofs.ItemLaws as item
 use Rattle.round_trip.proofs.PaddedLaws.{padded-by, padded-again}
 use Rattle.items.specs.ReadType.{leadGrade, readType}
-use Rattle.claims.specs.Demand3.{typeMark, importMark, flagsRow, flagsPool, flagsBytes, otherWords, Demand3, Readable, types, imports, reads, SameBy, Same, firstAbove, Marking, ReadBack, Returned, WrittenAgain}
+use Rattle.claims.specs.Demand3.{typeMark, canonicalMark, importMark, coreInstanceMark, instanceMark, shapeBy, flagsRow, flagsPool, flagsBytes, otherWords, Demand3, reads, SameBy, Same, firstAbove, Marking, ReadBack, Returned, WrittenAgain}
 use Rattle.types.specs.Table as typeTable
 use Rattle.types.specs.Write as typeWrite
 use Rattle.types.specs.Write.{measuredType, writeType}
@@ -45,9 +45,20 @@ use Rattle.imports.specs.Table as importTable
 use Rattle.imports.specs.Write as importWrite
 use Rattle.imports.specs.Write.{measuredImport, writeImport}
 use Rattle.claims.proofs.ImportsBack.{import-back, import-only}
-use Rattle.sections.specs.Section.{fresh, measuredFamily, familyBytes, writeFamily}
+use Rattle.instances.specs.Table as instanceTable
+use Rattle.instances.specs.Write as instanceWrite
+use Rattle.instances.specs.Write.{measuredCoreInstance, writeCoreInstance, measuredInstance, writeInstance}
+use Rattle.instance_items.specs.ReadInstance.{readCoreInstance, readInstance}
+use Rattle.canonicals.specs.Write as canonicalWrite
+use Rattle.canonicals.specs.Write.{writeCanonical}
+use Rattle.canonical_items.specs.ReadCanonical as canonicalRead
+use Rattle.canonical_items.specs.ReadCanonical.{readLift, readCanonical}
+use Rattle.claims.proofs.CanonicalsBack.{canonical-back, canonical-only, canonical-newer}
+use Rattle.claims.proofs.LiftBack.{lift-limits}
+use Rattle.claims.proofs.InstancesBack.{core-instance-back, core-instance-only, instance-back, instance-only}
+use Rattle.sections.specs.Section.{fresh, entriesOf, measuredFamily, familyBytes, writeFamily}
 use Rattle.sections.proofs.TurnLaws.{row-turns, accepted-size}
-use Rattle.claims.specs.Valid.{Valid, production}
+use Rattle.claims.specs.Valid.{Family, core-instances, instances, types, canonicals, imports, Valid, production}
 use Rattle.claims.proofs.Production.{family-production}
 use Rattle.claims.proofs.MarkLaws.{tableMarks, of-table, row-mark}
 use Rattle.numbers.proofs.Impossible.{impossible}
@@ -58,10 +69,10 @@ valid-size : (family : ℕ) (row pool : List ℕ) → Valid family row pool → 
 valid-size family row pool v = accepted-size (row-turns (fresh family) (v .0) row pool) (v .1)
 
 -- its bytes are its production
-pub valid-bytes : (family : ℕ) → Readable family → (row pool : List ℕ) → Valid family row pool → familyBytes family pool row ≡ production family pool row
+pub valid-bytes : (family : ℕ) → Family family → (row pool : List ℕ) → Valid family row pool → familyBytes family pool row ≡ production family pool row
 valid-bytes family f row pool v = family-production family row pool _ (valid-size family row pool v)
 
-pub valid-measured : (family : ℕ) → Readable family → (row pool : List ℕ) → Valid family row pool
+pub valid-measured : (family : ℕ) → Family family → (row pool : List ℕ) → Valid family row pool
     → measuredFamily family row pool ≡ Size (length (production family pool row))
 valid-measured family f row pool v = valid-size family row pool v ∙ ap (λ bs. Size (length bs)) (valid-bytes family f row pool v)
 
@@ -69,7 +80,7 @@ valid-measured family f row pool v = valid-size family row pool v ∙ ap (λ bs.
 
 module _ (family : ℕ) (row pool input room : List ℕ) where
   abbrev found : Found
-  found = cond (eqb family 7) (typeWrite.shapeOf (word row 0)) (importWrite.shapeOf (word row 0))
+  found = shapeBy (entriesOf family) (word row 0)
 
   -- what is said of the kind's shape is said of the row
   of-kind : (mk : Mark) (l : LeftRow) → ReadsBack found mk pool row input room (length (production family pool row)) l
@@ -87,7 +98,7 @@ module _ (family : ℕ) (row pool input room : List ℕ) where
   )
 
 -- a row that has a size, by which it is written as its production
-sized-back : (family : ℕ) → Readable family → (row pool : List ℕ) → Words row
+sized-back : (family : ℕ) → Family family → (row pool : List ℕ) → Words row
     → measuredFamily family row pool ≡ Size (length (production family pool row)) → familyBytes family pool row ≡ production family pool row
     → (rest room : List ℕ) (g : ℕ) → 1 ≤ g → g ≤ 3 → length (production family pool row ++ rest) ≤ 2 ^ 30
     → ReadBack (firstAbove family g pool row) family pool row (production family pool row ++ rest) room
@@ -95,10 +106,16 @@ sized-back : (family : ℕ) → Readable family → (row pool : List ℕ) → Wo
 unfolding measuredFamily familyBytes
 sized-back family types row pool fw m p rest room g any top short =
     of-kind 7 row pool _ room _ _ (type-back g row pool _ fw m rest _ room (ap (λ bs. bs ++ rest) (sym p)) any top short)
+sized-back family canonicals row pool fw m p rest room g any top short =
+    of-kind 8 row pool _ room _ _ (canonical-back g row pool _ fw m rest _ room (ap (λ bs. bs ++ rest) (sym p)) any top short)
 sized-back family imports row pool fw m p rest room g any top short =
     of-kind 10 row pool _ room _ _ (import-back g row pool _ fw m rest _ room (ap (λ bs. bs ++ rest) (sym p)) any top short)
+sized-back family core-instances row pool fw m p rest room g any top short =
+    of-kind 2 row pool _ room _ _ (core-instance-back g row pool _ fw m rest _ room (ap (λ bs. bs ++ rest) (sym p)) any top short)
+sized-back family instances row pool fw m p rest room g any top short =
+    of-kind 5 row pool _ room _ _ (instance-back g row pool _ fw m rest _ room (ap (λ bs. bs ++ rest) (sym p)) any top short)
 
-read-back : (family : ℕ) → Readable family → (row pool : List ℕ) → Words row → Valid family row pool
+read-back : (family : ℕ) → Family family → (row pool : List ℕ) → Words row → Valid family row pool
     → (rest room : List ℕ) (g : ℕ) → 1 ≤ g → g ≤ 3 → length (production family pool row ++ rest) ≤ 2 ^ 30
     → ReadBack (firstAbove family g pool row) family pool row (production family pool row ++ rest) room
     (reads family g (production family pool row ++ rest) room)
@@ -132,11 +149,22 @@ item-limits f kind lead g input room after q e r = go (ltb (2 ^ 30) (length inpu
     go false false true x y z r = refused r
     go false false false x y z r = (ltb-false _ _ y, ltb-false _ _ z, ltb-false _ _ x)
 
-reads-limits : (family : ℕ) → Readable family → (g : ℕ) (input room after : List ℕ) (q e : ℕ)
+reads-limits : (family : ℕ) → Family family → (g : ℕ) (input room after : List ℕ) (q e : ℕ)
     → reads family g input room ≡ leftRow (Item q e) after → Limits g input
-unfolding readType readImport
+unfolding readType readCanonical readImport readCoreInstance readInstance
 reads-limits family types g input room after q e r = item-limits _ _ _ g input room after q e r
+reads-limits family canonicals g input room after q e r = go (eqb (byte input 0) 0) r
+  where
+    go : (b : Bool)
+        → cond b (readLift g input room)
+        (readItem (canonicalWrite.shapeOf (256 + byte input 0)) (256 + byte input 0) (canonicalRead.leadGrade (256 + byte input 0)) g input room)
+        ≡ leftRow (Item q e) after
+        → Limits g input
+    go true r = lift-limits g input room after q e r
+    go false r = item-limits _ _ _ g input room after q e r
 reads-limits family imports g input room after q e r = item-limits _ _ _ g input room after q e r
+reads-limits family core-instances g input room after q e r = item-limits _ _ _ g input room after q e r
+reads-limits family instances g input room after q e r = item-limits _ _ _ g input room after q e r
 
 module _ (family : ℕ) (row pool input room after : List ℕ) (q e : ℕ) where
   -- the words that are returned are as many as the row's
@@ -167,7 +195,7 @@ module _ (family : ℕ) (row pool input room after : List ℕ) (q e : ℕ) where
       go true t = refused (sym (r .0 (ltb-true _ _ t)))
       go false t = let h = ltb-false _ _ t in returned h (r .1 h)
 
-never-another : (family : ℕ) → Readable family → (row pool : List ℕ) → Words row → Valid family row pool
+never-another : (family : ℕ) → Family family → (row pool : List ℕ) → Words row → Valid family row pool
     → (rest room after : List ℕ) (g words bytes : ℕ)
     → reads family g (production family pool row ++ rest) room ≡ leftRow (Item words bytes) after
     → (words ≡ length row) × (bytes ≡ length (production family pool row))
@@ -183,24 +211,40 @@ never-another family f row pool fw v rest room after g words bytes r =
 
 -- every byte by which a line of a table is marked is among the marking ones
 types-mark : tableMarks 7 leadGrade typeTable.table ≡ true
-unfolding leadGrade
+unfolding leadGrade shapeIn
 types-mark = refl
 
 imports-mark : tableMarks 10 (λ k. 1) importTable.table ≡ true
 imports-mark = refl
 
-newer-at : (family : ℕ) → Readable family → (row pool : List ℕ) → Words row → Valid family row pool
+core-instances-mark : tableMarks 2 (λ k. 1) instanceTable.coreTable ≡ true
+core-instances-mark = refl
+
+instances-mark : tableMarks 5 (λ k. 1) instanceTable.table ≡ true
+instances-mark = refl
+
+newer-at : (family : ℕ) → Family family → (row pool : List ℕ) → Words row → Valid family row pool
     → (g j : ℕ) → 1 ≤ g → firstAbove family g pool row ≡ At j
     → (j < length (production family pool row)) × Marking family g (byte (production family pool row) j)
-unfolding measuredFamily familyBytes measuredType measuredImport typeMark importMark
+unfolding measuredFamily familyBytes measuredType measuredImport measuredCoreInstance measuredInstance typeMark importMark coreInstanceMark instanceMark
 newer-at family types row pool fw v g j any m =
     rw (← valid-bytes 7 types row pool v)
     (row-mark 7 (leadGrade (word row 0)) g any (typeWrite.shapeOf (word row 0)) row pool _ (valid-measured 7 types row pool v)
     (of-table 7 leadGrade typeTable.table types-mark (word row 0)) j m)
+newer-at family canonicals row pool fw v g j any m =
+    rw (← valid-bytes 8 canonicals row pool v) (canonical-newer row pool _ (valid-measured 8 canonicals row pool v) g j any m)
 newer-at family imports row pool fw v g j any m =
     rw (← valid-bytes 10 imports row pool v)
     (row-mark 10 1 g any (importWrite.shapeOf (word row 0)) row pool _ (valid-measured 10 imports row pool v)
     (of-table 10 (λ k. 1) importTable.table imports-mark (word row 0)) j m)
+newer-at family core-instances row pool fw v g j any m =
+    rw (← valid-bytes 2 core-instances row pool v)
+    (row-mark 2 1 g any (instanceWrite.coreShapeOf (word row 0)) row pool _ (valid-measured 2 core-instances row pool v)
+    (of-table 2 (λ k. 1) instanceTable.coreTable core-instances-mark (word row 0)) j m)
+newer-at family instances row pool fw v g j any m =
+    rw (← valid-bytes 5 instances row pool v)
+    (row-mark 5 1 g any (instanceWrite.shapeOf (word row 0)) row pool _ (valid-measured 5 instances row pool v)
+    (of-table 5 (λ k. 1) instanceTable.table instances-mark (word row 0)) j m)
 
 -- ---- written again
 
@@ -228,10 +272,10 @@ by-kind find lead g input taken row o other pool m a same = go (find (word other
         ∙ ap (λ k. rowBytes (find k) pool other) kind
     go Not e same = absurd same
 
-rewritten : (family : ℕ) → Readable family → (input room after : List ℕ) (g words bytes : ℕ) → Bytes input → 1 ≤ g
+rewritten : (family : ℕ) → Family family → (input room after : List ℕ) (g words bytes : ℕ) → Bytes input → 1 ≤ g
     → reads family g input room ≡ leftRow (Item words bytes) after → bytes ≤ 65536
     → Rewritten family g input (take bytes input) (take words after)
-unfolding measuredFamily familyBytes writeFamily measuredType writeType measuredImport writeImport writeRow typeMark importMark
+unfolding measuredFamily familyBytes writeFamily measuredType writeType measuredImport writeImport writeCanonical measuredCoreInstance writeCoreInstance measuredInstance writeInstance writeRow typeMark importMark coreInstanceMark instanceMark
 rewritten family types input room after g words bytes fi any r few =
     let o = type-only g input room after words bytes fi any r few in
     record {
@@ -241,6 +285,16 @@ rewritten family types input room after g words bytes fi any r few =
       again = o .again;
       writes = λ out at. refl;
       same = by-kind typeWrite.shapeOf _ g input (take bytes input) (take words after) o;
+    }
+rewritten family canonicals input room after g words bytes fi any r few =
+    let o = canonical-only g input room after words bytes fi any r few in
+    record {
+      small = o .small;
+      clear = o .clear;
+      accepts = o .accepts;
+      again = o .again;
+      writes = λ out at. refl;
+      same = o .same;
     }
 rewritten family imports input room after g words bytes fi any r few =
     let o = import-only g input room after words bytes fi any r few in
@@ -252,8 +306,28 @@ rewritten family imports input room after g words bytes fi any r few =
       writes = λ out at. refl;
       same = by-kind importWrite.shapeOf _ g input (take bytes input) (take words after) o;
     }
+rewritten family core-instances input room after g words bytes fi any r few =
+    let o = core-instance-only g input room after words bytes fi any r few in
+    record {
+      small = o .small;
+      clear = o .clear;
+      accepts = o .accepts;
+      again = o .again;
+      writes = λ out at. refl;
+      same = by-kind instanceWrite.coreShapeOf _ g input (take bytes input) (take words after) o;
+    }
+rewritten family instances input room after g words bytes fi any r few =
+    let o = instance-only g input room after words bytes fi any r few in
+    record {
+      small = o .small;
+      clear = o .clear;
+      accepts = o .accepts;
+      again = o .again;
+      writes = λ out at. refl;
+      same = by-kind instanceWrite.shapeOf _ g input (take bytes input) (take words after) o;
+    }
 
-written-again : (family : ℕ) → Readable family → (input room after : List ℕ) (g words bytes : ℕ) → Bytes input
+written-again : (family : ℕ) → Family family → (input room after : List ℕ) (g words bytes : ℕ) → Bytes input
     → reads family g input room ≡ leftRow (Item words bytes) after → bytes ≤ 65536 → WrittenAgain family g (take bytes input) (take words after)
 written-again family f input room after g words bytes fi r few =
     let taken = take bytes input in

@@ -1,6 +1,6 @@
 -- A refusal changes nothing that is lent, and what is accepted changes only what it counts: the state as it is told, and of a buffer
 -- the bytes or words that stand at the place.
-use Prim.Native.Nat.{ℕ, _+_, _^_}
+use Prim.Native.Nat.{ℕ, _+_, _-_, _^_, _≤_}
 use native.Mathlib.Omega.{arith}
 use mathlib.Core.Path.{_≡_, refl, sym, ap, _∙_, subst}
 use mathlib.Core.Bool.{Bool, true, false, cond}
@@ -8,7 +8,7 @@ use mathlib.Core.List.{List, [], _∷_, _++_}
 use borrow.Author.Tests.{eqb-true}
 use lib.Dec.{eqb, ltb, leb}
 use lib.ListN.{length, getD, take, drop, length-append}
-use lib.Seq.{sets, length-sets}
+use lib.Seq.{sets, length-sets, length-take-le}
 use Rattle.numbers.specs.Bytes.{store, partOf}
 use Rattle.numbers.specs.Leb.{unsigned, signed}
 use Rattle.numbers.specs.Numbers as numbers
@@ -29,8 +29,8 @@ use Rattle.writing.specs.Binary.{valtype, externPart}
 use Rattle.reading.specs.Fill.{fill}
 use Rattle.fields.specs.Answers.{LeftRow, leftRow, numberOfRefusal, numberOf, valueOf, left, refuse}
 use Rattle.reading.specs.Read.{reader, scanned, filled, roomed, readFound, readItem}
-use Rattle.reading.specs.Scan.{scan}
-use Rattle.fields.specs.Shape.{plan}
+use Rattle.reading.specs.Scan.{byte, scan}
+use Rattle.fields.specs.Shape.{plan, seq}
 use Rattle.fields.specs.View.{view}
 use Rattle.fields.specs.Walk.{Plan, end, step, next, took, walk, outs}
 use Rattle.writing.specs.Write.{measured, written, stored, writeShape}
@@ -42,6 +42,10 @@ use Rattle.items.specs.ReadType.{readType}
 use Rattle.types.specs.Write as types
 use Rattle.types.specs.Write.{writeType}
 use Rattle.items.specs.ReadImport.{readImport}
+use Rattle.canonicals.specs.Table.{liftBytes}
+use Rattle.canonical_items.specs.ReadCanonical.{typeThird, readLift, readCanonical}
+use Rattle.instance_items.specs.ReadInstance.{readCoreInstance, readInstance}
+use Rattle.claims.proofs.Families.{on-test}
 use Rattle.imports.specs.Write.{writeImport}
 use Rattle.canonicals.specs.Write.{writeCanonical}
 use Rattle.instances.specs.Write.{writeCoreInstance, writeInstance}
@@ -89,6 +93,7 @@ refusal-number refusal.Code e = omega (arith, e)
 refusal-number refusal.Number e = omega (arith, e)
 refusal-number refusal.Newer e = omega (arith, e)
 refusal-number refusal.Sheet e = omega (arith, e)
+refusal-number refusal.Frame e = omega (arith, e)
 
 -- as it was
 kept-as-was : (number at size : ℕ) (l : List ℕ) → Kept number at size l l
@@ -221,9 +226,55 @@ reads-type : (g : ℕ) (input row : List ℕ) → Reads row (readType g input ro
 unfolding readType
 reads-type g input row = reads-item _ _ _ g input row
 
+-- a lift: its words are as many in both orders
+third-long : (ws : List ℕ) → 3 ≤ length ws → length (typeThird ws) ≡ length ws
+unfolding typeThird
+third-long (a ∷ b ∷ c ∷ ws) h =
+    let n : length (take (length (a ∷ b ∷ c ∷ ws) - 3) (c ∷ ws)) ≡ length (a ∷ b ∷ c ∷ ws) - 3 = length-take-le _ _ (omega arith) in
+    omega (arith, n)
+third-long [] h = absurd (omega (arith, h))
+third-long (a ∷ []) h = absurd (omega (arith, h))
+third-long (a ∷ b ∷ []) h = absurd (omega (arith, h))
+
 reads-import : (g : ℕ) (input row : List ℕ) → Reads row (readImport g input row)
 unfolding readImport
 reads-import g input row = reads-item _ _ _ g input row
+
+reads-lift : (g : ℕ) (input row : List ℕ) → Reads row (readLift g input row)
+unfolding readLift outs seq fill
+reads-lift g input row = go (ltb (2 ^ 30) (length input)) (ltb g 1) (ltb 3 g) (eqb (length input) 0)
+  where
+    ws : List ℕ
+    ws = filled 256 1 g liftBytes input
+
+    shaped : Reads row (roomed (scanned 1 g liftBytes input) (typeThird ws) row)
+    shaped =
+        let n : 1 + length (outs (reader 1 g input) (plan liftBytes) 0 input) ≡ length (typeThird ws) = omega (arith, third-long ws (omega arith)) in
+        reads-roomed (scanned 1 g liftBytes input) (typeThird ws) row
+        (subst (λ n. Made (scanned 1 g liftBytes input) n) n (fills 1 g input (plan liftBytes) input 0 1))
+
+    go : (a b c d : Bool)
+        → Reads row (cond a (leftRow (read.Refused refusal.Limit 0) row)
+        (cond b (leftRow (read.Refused refusal.Limit 0) row)
+        (cond c (leftRow (read.Refused refusal.Limit 0) row)
+        (cond d (leftRow (read.Refused refusal.Cut 0) row) (roomed (scanned 1 g liftBytes input) (typeThird ws) row)))))
+    go true b c d = kept-as-was _ 0 _ row
+    go false true c d = kept-as-was _ 0 _ row
+    go false false true d = kept-as-was _ 0 _ row
+    go false false false true = kept-as-was _ 0 _ row
+    go false false false false = shaped
+
+reads-canonical : (g : ℕ) (input row : List ℕ) → Reads row (readCanonical g input row)
+unfolding readCanonical
+reads-canonical g input row = on-test (Reads row) (eqb (byte input 0) 0) (reads-lift g input row) (reads-item _ _ _ g input row)
+
+reads-core-instance : (g : ℕ) (input row : List ℕ) → Reads row (readCoreInstance g input row)
+unfolding readCoreInstance
+reads-core-instance g input row = reads-item _ _ _ g input row
+
+reads-instance : (g : ℕ) (input row : List ℕ) → Reads row (readInstance g input row)
+unfolding readInstance
+reads-instance g input row = reads-item _ _ _ g input row
 
 -- ---- steps
 
@@ -479,6 +530,9 @@ changes-nothing-else =
       write-instance = writes-instance;
       read-type = reads-type;
       read-import = reads-import;
+      read-canonical = reads-canonical;
+      read-core-instance = reads-core-instance;
+      read-instance = reads-instance;
       write-by = writes-family;
       step-state = λ k s body. step-leaves k s body .on-state;
       step-body = λ k s body. step-leaves k s body .on-body;

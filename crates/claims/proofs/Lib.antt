@@ -1,10 +1,15 @@
 pub mod Bad
 pub mod Bench
+pub mod CanonicalsBack
+pub mod ClassOne
 pub mod Demand2
 pub mod Demand3
 pub mod Families
 pub mod ImportsBack
+pub mod InstancesBack
 pub mod Kept
+pub mod KindBack
+pub mod LiftBack
 pub mod MarkLaws
 pub mod Names
 pub mod NumberInputs

@@ -18,8 +18,11 @@ use Rattle.fields.specs.declared.Found.{Found}
 use Rattle.fields.specs.declared.Found.the-variants.{Is}
 use Rattle.fields.specs.declared.Leaf.the-variants.{Fine}
 use Rattle.fields.specs.declared.Shape.{Shape}
+use Rattle.fields.specs.declared.Site.{Site}
+use Rattle.fields.specs.declared.Site.the-variants.{Primitive, TypeLead, NameLead, CanonLead, CanonOption}
+use Rattle.fields.specs.Grades.{gradeOf}
 use Rattle.fields.specs.Words.{word, wide}
-use Rattle.writing.specs.Binary.{name, primvaltype, valtype, optional, resultlist, functype, slots, slotsAt, externname, externdesc, bytes}
+use Rattle.writing.specs.Binary.{name, primvaltype, valtype, optional, resultlist, functype, canonopt, slots, slotsAt, externname, externdesc, bytes}
 use Rattle.writing.specs.Judge.{flaw, unless, judge}
 use Rattle.round_trip.specs.Mark.{Mark, Clear, At, asks, primitiveGrade, valueMark, mark, ahead, firstMark, rowMark}
 use Rattle.writing.specs.Row.{measuredRow, rowBytes}
@@ -31,26 +34,34 @@ use Rattle.fields.specs.Walk.{Plan, end, step, next, took, walk, outs}
 use Rattle.writing.specs.Write.{writer, written}
 use Rattle.round_trip.proofs.Back.{Reaches}
 use Rattle.writing.proofs.WholeLaws.{accepted}
-use Rattle.claims.specs.Demand3.{markTwo, markThree, Marking}
-use Rattle.claims.specs.Numbers.{Among}
+use Rattle.claims.specs.Demand3.{sites, MarkingAt, Marking}
 use Rattle.numbers.proofs.Impossible.{impossible}
 
 -- ---- the test
 
-abbrev among : ℕ → List ℕ → Bool
-among n [] = false
-among n (m ∷ ms) = cond (eqb n m) true (among n ms)
+-- b marks a form of grade n at a site
+abbrev markingAt : ℕ → ℕ → List Site → Bool
+markingAt n b [] = false
+markingAt n b (s ∷ ss) = cond (leb n (gradeOf s b)) true (markingAt n b ss)
 
 -- b marks the forms of grade n, as far as they are above grade 1
 abbrev marking : ℕ → ℕ → ℕ → Bool
-marking family n b =
-    cond (leb n 1) true (cond (eqb n 2) (among b (markTwo family)) (cond (eqb n 3) (among b (markThree family)) false))
+marking family n b = cond (leb n 1) true (markingAt n b (sites family))
+
+-- options of canonicals mark
+abbrev optionIn : List Site → Bool
+optionIn [] = false
+optionIn (Primitive ∷ ss) = optionIn ss
+optionIn (TypeLead ∷ ss) = optionIn ss
+optionIn (NameLead ∷ ss) = optionIn ss
+optionIn (CanonLead ∷ ss) = optionIn ss
+optionIn (CanonOption ∷ ss) = true
 
 -- the bytes by which a field is marked are among those
 abbrev pub marks : ℕ → ℕ → Field → Bool
 marks family lead field.Nothing = true
 marks family lead (field.Fixed b) = marking family lead b
-marks family lead field.Primitive = marking family 2 0x64
+marks family lead field.Primitive = marking family (gradeOf Primitive 0x64) 0x64
 marks family lead field.Value = marking family 2 0x64
 marks family lead field.Optional = marking family 2 0x64
 marks family lead field.OptionalThenZero = marking family 2 0x64
@@ -61,7 +72,7 @@ marks family lead field.Async = marking family 2 0x43
 marks family lead field.Flag = true
 marks family lead field.Rep = true
 marks family lead field.OptionalIndex = true
-marks family lead field.Choice = true
+marks family lead field.Choice = optionIn (sites family)
 marks family lead field.ExternName = marking family 3 0x02
 marks family lead field.Reference = marking family 2 0x64
 marks family lead field.Argument = true
@@ -104,25 +115,30 @@ of-table family grade (l ∷ ls) t k s f =
 
 -- ---- what it says, of a family at a grade
 
-among-true : (n : ℕ) (ms : List ℕ) → among n ms ≡ true → Among n ms
-among-true n [] e = impossible cc
-among-true n (m ∷ ms) e = go (eqb n m) refl e (among-true n ms)
+marking-true : (g n b : ℕ) (ss : List Site) → markingAt n b ss ≡ true → g < n → MarkingAt g b ss
+marking-true g n b [] e above = impossible cc
+marking-true g n b (s ∷ ss) e above = go (leb n (gradeOf s b)) refl e (λ k. marking-true g n b ss k above)
   where
-    go : (b : Bool) → eqb n m ≡ b → cond b true (among n ms) ≡ true → (among n ms ≡ true → Among n ms) → (n ≡ m) ⊎ Among n ms
-    go true t e ih = inl (eqb-true n m t)
+    go : (t : Bool) → leb n (gradeOf s b) ≡ t → cond t true (markingAt n b ss) ≡ true → (markingAt n b ss ≡ true → MarkingAt g b ss)
+        → (g < gradeOf s b) ⊎ MarkingAt g b ss
+    go true t e ih = let h = leb-true n (gradeOf s b) t in inl (omega (arith, above, h))
     go false t e ih = inr (ih e)
+
+option-true : (g b : ℕ) (ss : List Site) → optionIn ss ≡ true → g < gradeOf CanonOption b → MarkingAt g b ss
+option-true g b [] e above = impossible cc
+option-true g b (Primitive ∷ ss) e above = inr (option-true g b ss e above)
+option-true g b (TypeLead ∷ ss) e above = inr (option-true g b ss e above)
+option-true g b (NameLead ∷ ss) e above = inr (option-true g b ss e above)
+option-true g b (CanonLead ∷ ss) e above = inr (option-true g b ss e above)
+option-true g b (CanonOption ∷ ss) e above = inl above
 
 module _ (family lead g : ℕ) (any : 1 ≤ g) where
   is-marking : (n b : ℕ) → marking family n b ≡ true → g < n → Marking family g b
-  is-marking n b e above = go (leb n 1) (eqb n 2) (eqb n 3) refl refl refl e
+  is-marking n b e above = go (leb n 1) refl e
     where
-      go : (x y z : Bool) → leb n 1 ≡ x → eqb n 2 ≡ y → eqb n 3 ≡ z
-          → cond x true (cond y (among b (markTwo family)) (cond z (among b (markThree family)) false)) ≡ true
-          → Marking family g b
-      go true y z p q r e = let h = leb-true n 1 p in absurd (omega arith)
-      go false true z p q r e = let h = eqb-true n 2 q in inl (omega arith, among-true b (markTwo family) e)
-      go false false true p q r e = let h = eqb-true n 3 r in inr (omega arith, among-true b (markThree family) e)
-      go false false false p q r e = impossible cc
+      go : (x : Bool) → leb n 1 ≡ x → cond x true (markingAt n b (sites family)) ≡ true → Marking family g b
+      go true p e = let h = leb-true n 1 p in absurd (omega (arith, any, above, h))
+      go false p e = marking-true g n b (sites family) e above
 
   -- a marking byte stands at i
   record Stands (bs : List ℕ) (i : ℕ) : Type 0 where
@@ -185,7 +201,7 @@ module _ (family lead g : ℕ) (any : 1 ≤ g) where
       go false e = tt
 
   field-mark : (pool : List ℕ) (f : Field) (ws : List ℕ) → marks family lead f ≡ true → Mine (mark lead g f ws) (bytes pool f ws)
-  unfolding mark bytes primvaltype valtype optional resultlist functype externname externdesc
+  unfolding mark bytes primvaltype valtype optional resultlist functype canonopt externname externdesc
   field-mark pool field.Nothing ws k = tt
   field-mark pool (field.Fixed b) ws k = asked lead 0 (b ∷ []) (first lead b [] k)
   field-mark pool field.Primitive ws k = primitive 0 (word ws 0) (λ p. primvaltype p ∷ []) (first 2 0x64 [] k)
@@ -204,7 +220,9 @@ module _ (family lead g : ℕ) (any : 1 ≤ g) where
   field-mark pool field.Flag ws k = tt
   field-mark pool field.Rep ws k = tt
   field-mark pool field.OptionalIndex ws k = tt
-  field-mark pool field.Choice ws k = tt
+  field-mark pool field.Choice ws k =
+      asked (gradeOf CanonOption (word ws 0)) 0 (canonopt (word ws 0) (word ws 1))
+      (λ h. record { inside = omega arith; above = option-true g (word ws 0) (sites family) k h })
   field-mark pool field.ExternName ws k = go (eqb (slots ws) 0)
     where
       plain : List ℕ

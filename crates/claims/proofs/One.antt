@@ -1,5 +1,5 @@
 -- No second outcome meets the contract of a public call: the clauses name one value, and an outcome is read off it.
-use Prim.Native.Nat.{ℕ}
+use Prim.Native.Nat.{ℕ, _%_}
 use native.Mathlib.Omega.{arith}
 use mathlib.Core.Path.{_≡_, refl, sym, _∙_, ap}
 use mathlib.Core.Logic.{∥∥₁-elim, ∥∥₁-map}
@@ -11,8 +11,10 @@ use denote.Ref.{RefT}
 use borrow.Fn.World.{World, w₀}
 use Rattle.numbers.specs.Bytes.{partOf}
 use Rattle.numbers.proofs.bytes.part as call-part
+use Rattle.canonicals.specs.inside.Class.{shapeFor}
 use Rattle.claims.specs.One.{OneOutcome}
 use Rattle.claims.specs.OneCalls.{NoSecondOutcome}
+use Rattle.claims.proofs.ClassOne.{one-class}
 
 -- of two values that are the same third, what one determines the other does
 pub one : (w : World) {S R : Type 0} {b c v : S} (f : S → R)
@@ -22,6 +24,15 @@ one w {b = b} {c} {v} f =
     fact-use (w .𝓤) (b ≡ v) (conjL (w .𝓤) (fact (w .𝓤) (b ≡ v)) (fact (w .𝓤) (c ≡ v))) (λ p.
     fact-use (w .𝓤) (c ≡ v) (conjR (w .𝓤) (fact (w .𝓤) (b ≡ v)) (fact (w .𝓤) (c ≡ v))) (λ q.
     factI (w .𝓤) (f b ≡ f c) both (ap f (p ∙ sym q))))
+
+-- of two values of which a third is made alike, where it is made of one alone
+pub one-by : (w : World) {S R T : Type 0} {b c : R} {v : S} (make : R → S) → ((b c : R) → make b ≡ make c → b ≡ c) → (f : R → T)
+    → ent (w .𝓤) (conj (w .𝓤) (fact (w .𝓤) (v ≡ make b)) (fact (w .𝓤) (v ≡ make c))) (fact (w .𝓤) (f b ≡ f c))
+one-by w {b = b} {c} {v} make alone f =
+    let both = conj (w .𝓤) (fact (w .𝓤) (v ≡ make b)) (fact (w .𝓤) (v ≡ make c)) in
+    fact-use (w .𝓤) (v ≡ make b) (conjL (w .𝓤) (fact (w .𝓤) (v ≡ make b)) (fact (w .𝓤) (v ≡ make c))) (λ p.
+    fact-use (w .𝓤) (v ≡ make c) (conjR (w .𝓤) (fact (w .𝓤) (v ≡ make b)) (fact (w .𝓤) (v ≡ make c))) (λ q.
+    factI (w .𝓤) (f b ≡ f c) both (ap f (alone b c (sym p ∙ q)))))
 
 -- the bytes 61 61 at the front of a block, and the first byte or the second as a part of one byte
 abbrev twice : RefT (List ℕ)
@@ -53,6 +64,7 @@ no-second-outcome = record {
   short-signed = λ w κs a g x y. one w (λ l. (l, (tt, tt)));
   is-text = λ w κs a g x y. one w (λ l. (l, (tt, tt)));
   spelling-of = λ w κs a g x y. one w (λ l. (l, (tt, tt)));
+  grade-of = λ w κs a g x y. one w (λ l. (l, (tt, (tt, tt))));
   is-indexed = λ w κs a g x y. one w (λ l. (l, (tt, tt)));
   kind-of = λ w κs a g x y. one w (λ l. (l, (tt, tt)));
   two-of = λ w κs a g x y. one w (λ l. (l, (tt, (tt, (tt, (tt, tt))))));
@@ -88,12 +100,19 @@ no-second-outcome = record {
   measure-import = λ w κs a g x y. one w (λ l. (l, (tt, (tt, tt))));
   write-import = λ w κs a g x y. one w (λ l. (l .answer, (tt, (tt, (l .buffer, (tt, tt))))));
   read-import = λ w κs a g x y. one w (λ l. (l .answer, (tt, (tt, (l .row, tt)))));
+  class-of = λ w κs a g x y. one-by w (λ c. shapeFor c (a .0 % 256)) (one-class (a .0 % 256)) (λ l. (l, (tt, tt)));
+  shape-of-canonical = λ w κs a g x y. one w (λ l. (l, (tt, tt)));
   measure-canonical = λ w κs a g x y. one w (λ l. (l, (tt, (tt, tt))));
   write-canonical = λ w κs a g x y. one w (λ l. (l .answer, (tt, (tt, (l .buffer, (tt, tt))))));
+  shape-of-core-instance = λ w κs a g x y. one w (λ l. (l, (tt, tt)));
+  shape-of-instance = λ w κs a g x y. one w (λ l. (l, (tt, tt)));
   measure-core-instance = λ w κs a g x y. one w (λ l. (l, (tt, (tt, tt))));
   write-core-instance = λ w κs a g x y. one w (λ l. (l .answer, (tt, (tt, (l .buffer, (tt, tt))))));
   measure-instance = λ w κs a g x y. one w (λ l. (l, (tt, (tt, tt))));
   write-instance = λ w κs a g x y. one w (λ l. (l .answer, (tt, (tt, (l .buffer, (tt, tt))))));
+  read-canonical = λ w κs a g x y. one w (λ l. (l .answer, (tt, (tt, (l .row, tt)))));
+  read-core-instance = λ w κs a g x y. one w (λ l. (l .answer, (tt, (tt, (l .row, tt)))));
+  read-instance = λ w κs a g x y. one w (λ l. (l .answer, (tt, (tt, (l .row, tt)))));
   write-by = λ w κs a g x y. one w (λ l. (l .answer, (tt, (tt, (tt, (l .buffer, (tt, tt)))))));
   new = λ w κs a g x y. one w (λ l. (l, (tt, tt)));
   row = λ w κs a g x y. one w (λ l. (l .gave, (tt, (tt, (tt, (l .body, tt))))));

@@ -18,7 +18,9 @@ use Rattle.fields.specs.declared.Refusal.the-variants as refusal
 use Rattle.fields.specs.Words.{indexed}
 use Rattle.fields.specs.Answers.{LeftRow, offsetOf}
 use Rattle.reading.specs.Read.{reader, scanned, filled, roomed, readFound, readItem, scannedFound, scannedItem, refusalOf}
-use Rattle.reading.specs.Scan.{byte, there, asked, past, numbered, scanIndex, named, scanName, scanPrimitive, scanValue, zeroAt, either, scanOptional, thenZero, scanResult, scanChoice, onward, stringAt, counted, countAt, slotScan, endScan, headScan, firstScan, secondScan, scanExtern, scanBound, scanModule, three, scanReference, scanEither, scanOptionalIndex, scan, scanArgument, scanCoreSortIndex, scanSortIndex}
+use Rattle.fields.specs.declared.Site.the-variants.{CanonOption}
+use Rattle.fields.specs.Grades.{gradeOf}
+use Rattle.reading.specs.Scan.{chosen, byte, there, asked, past, numbered, scanIndex, named, scanName, scanPrimitive, scanValue, zeroAt, either, scanOptional, thenZero, scanResult, scanChoice, onward, stringAt, counted, countAt, slotScan, endScan, headScan, firstScan, secondScan, scanExtern, scanBound, scanModule, three, scanReference, scanEither, scanOptionalIndex, scan, scanArgument, scanCoreSortIndex, scanSortIndex}
 use Rattle.fields.specs.Shape.{plan}
 use Rattle.claims.proofs.Families.{on-test}
 use Rattle.claims.proofs.NumberLaws.{AnyText, Ends, TellsRead, each-any, walk-why}
@@ -97,10 +99,12 @@ module _ (P : Refusal → Type 0) (h : Scans P) where
   behind-why : (n m : ℕ) (bs : List ℕ) → Why (past n (scanIndex m (drop n bs)))
   behind-why n m bs = past-why n (scanIndex m (drop n bs)) (index-why m (drop n bs))
 
-  choice-why : (bs : List ℕ) → Why (scanChoice bs)
+  choice-why : (g : ℕ) (bs : List ℕ) → Why (scanChoice g bs)
   unfolding scanChoice
-  choice-why bs =
-      on-test Why (leb (length bs) 0) (h .cut) (on-test Why (ltb (byte bs 0) 10) (on-test Why (indexed (byte bs 0)) (behind-why 1 2 bs) tt) (h .code))
+  choice-why g bs =
+      on-test Why (leb (length bs) 0) (h .cut)
+      (on-test Why (ltb (byte bs 0) 10)
+      (asked-why g (gradeOf CanonOption (byte bs 0)) 0 (chosen bs) (on-test Why (indexed (byte bs 0)) (behind-why 1 2 bs) tt)) (h .code))
 
   -- ---- extern names
 
@@ -182,7 +186,7 @@ module _ (P : Refusal → Type 0) (h : Scans P) where
   scan-why lead g field.Rep bs = byte-why g 1 0x7f 0x7e bs
   scan-why lead g field.OptionalIndex bs =
       either-why bs 0x00 (Fine 1 2) 0x01 (past 1 (scanIndex 2 (drop 1 bs))) tt (behind-why 1 2 bs)
-  scan-why lead g field.Choice bs = choice-why bs
+  scan-why lead g field.Choice bs = choice-why g bs
   scan-why lead g field.ExternName bs = extern-why g bs
   scan-why lead g field.Reference bs = reference-why g bs
   scan-why lead g field.Argument bs = on-test Why (leb (length bs) 0) (h .cut) (on-test Why (eqb (byte bs 0) 0x12) (behind-why 1 1 bs) (h .code))

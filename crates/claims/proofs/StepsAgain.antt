@@ -46,6 +46,7 @@ Other refusal.Code = Unit {0}
 Other refusal.Number = Unit {0}
 Other refusal.Newer = Unit {0}
 Other refusal.Sheet = Unit {0}
+Other refusal.Frame = Unit {0}
 
 measured-other : (shape : Shape) (row : List ℕ) (start : ℕ) (pool : List ℕ) → Tells Other (measured shape row start pool)
 measured-other shape row start pool = measured-why Other shape row start pool (any-shape Other tt tt tt tt (λ byte. tt) shape row start pool)

@@ -7,7 +7,7 @@ use mathlib.Core.Bool.{cond}
 use mathlib.Core.Logic.{_⊎_}
 use mathlib.Core.List.{List, [], _∷_, _++_}
 use lib.Dec.{eqb}
-use lib.ListN.{length, take}
+use lib.ListN.{length, take, drop}
 use lib.Seq.{sets}
 use Rattle.numbers.specs.Again.{Again}
 use Rattle.numbers.specs.Bytes.{Bytes}
@@ -16,6 +16,9 @@ use Rattle.fields.specs.declared.Found.{Found}
 use Rattle.fields.specs.declared.Found.the-variants.{Is, Not}
 use Rattle.fields.specs.declared.Read.the-variants.{Item, Refused}
 use Rattle.fields.specs.declared.Refusal.the-variants as refusal
+use Rattle.fields.specs.declared.Site.{Site}
+use Rattle.fields.specs.declared.Site.the-variants.{Primitive, TypeLead, NameLead, CanonLead, CanonOption}
+use Rattle.fields.specs.Grades.{gradeOf}
 use Rattle.fields.specs.Words.{word, Words}
 use Rattle.round_trip.specs.Mark.{Mark, Clear, At, rowMark, SameItem}
 use Rattle.round_trip.specs.Padded.{Padded}
@@ -26,18 +29,36 @@ use Rattle.items.specs.ReadType.{readType, leadGrade}
 use Rattle.types.specs.Write as typeWrite
 use Rattle.items.specs.ReadImport.{readImport}
 use Rattle.imports.specs.Write as importWrite
-use Rattle.sections.specs.Section.{writeFamily}
-use Rattle.claims.specs.Numbers.{Among}
-use Rattle.claims.specs.Valid.{Valid, production}
+use Rattle.canonicals.specs.Table.{liftBytes}
+use Rattle.canonicals.specs.Write as canonicalWrite
+use Rattle.canonical_items.specs.ReadCanonical as canonicalRead
+use Rattle.canonical_items.specs.ReadCanonical.{readCanonical}
+use Rattle.instances.specs.Write as instanceWrite
+use Rattle.instance_items.specs.ReadInstance.{readCoreInstance, readInstance}
+use Rattle.sections.specs.Section.{Entries, Types, Canonicals, Imports, CoreInstances, Instances, None, entriesOf, writeFamily}
+use Rattle.claims.specs.Valid.{Family, Valid, production}
 use Rattle.fields.specs.Limits.{poolBytes, inputBytes}
 
--- the families that are read, each by its own call
-pub data Readable : ℕ → Type 0 where
-  types : Readable 7
-  imports : Readable 10
+-- each family is read by its own section's call
+abbrev pub readsBy : Entries → ℕ → List ℕ → List ℕ → LeftRow
+readsBy Types g input room = readType g input room
+readsBy Canonicals g input room = readCanonical g input room
+readsBy Imports g input room = readImport g input room
+readsBy CoreInstances g input room = readCoreInstance g input room
+readsBy Instances g input room = readInstance g input room
+readsBy None g input room = leftRow (Refused refusal.Limit 0) room
 
 abbrev pub reads : ℕ → ℕ → List ℕ → List ℕ → LeftRow
-reads family g input room = cond (eqb family 7) (readType g input room) (readImport g input room)
+reads family g input room = readsBy (entriesOf family) g input room
+
+-- the shape of a kind
+abbrev pub shapeBy : Entries → ℕ → Found
+shapeBy Types k = typeWrite.shapeOf k
+shapeBy Canonicals k = canonicalWrite.shapeOf k
+shapeBy Imports k = importWrite.shapeOf k
+shapeBy CoreInstances k = instanceWrite.coreShapeOf k
+shapeBy Instances k = instanceWrite.shapeOf k
+shapeBy None k = Not
 
 -- "same item" as the row, whose kind has a shape
 abbrev pub SameBy : Found → List ℕ → List ℕ → List ℕ → List ℕ → Type 0
@@ -45,28 +66,60 @@ SameBy (Is s) pool row input words = SameItem s pool row input words
 SameBy Not pool row input words = ⊥
 
 abbrev pub Same : ℕ → List ℕ → List ℕ → List ℕ → List ℕ → Type 0
-Same family pool row input words = SameBy (cond (eqb family 7) (typeWrite.shapeOf (word row 0)) (importWrite.shapeOf (word row 0))) pool row input words
+Same family pool row input words = SameBy (shapeBy (entriesOf family) (word row 0)) pool row input words
 
--- the first byte above a grade that a row has: of a type, and of an import, found of the row alone
+-- the first byte above a grade that a row has, found of the row alone
 unfoldable pub typeMark : ℕ → List ℕ → List ℕ → Mark
 typeMark g pool row = rowMark (typeWrite.shapeOf (word row 0)) (leadGrade (word row 0)) g pool row
+
+-- the words of a lift in the order of its bytes: the type last
+unfoldable pub typeLast : List ℕ → List ℕ
+typeLast row = take 2 row ++ (drop 3 row ++ word row 2 ∷ [])
+
+unfoldable pub canonicalMark : ℕ → List ℕ → List ℕ → Mark
+canonicalMark g pool row =
+    cond (eqb (word row 0) 256) (rowMark (Is liftBytes) 1 g pool (typeLast row))
+    (rowMark (canonicalWrite.shapeOf (word row 0)) (canonicalRead.leadGrade (word row 0)) g pool row)
 
 unfoldable pub importMark : ℕ → List ℕ → List ℕ → Mark
 importMark g pool row = rowMark (importWrite.shapeOf (word row 0)) 1 g pool row
 
+unfoldable pub coreInstanceMark : ℕ → List ℕ → List ℕ → Mark
+coreInstanceMark g pool row = rowMark (instanceWrite.coreShapeOf (word row 0)) 1 g pool row
+
+unfoldable pub instanceMark : ℕ → List ℕ → List ℕ → Mark
+instanceMark g pool row = rowMark (instanceWrite.shapeOf (word row 0)) 1 g pool row
+
+abbrev pub markBy : Entries → ℕ → List ℕ → List ℕ → Mark
+markBy Types g pool row = typeMark g pool row
+markBy Canonicals g pool row = canonicalMark g pool row
+markBy Imports g pool row = importMark g pool row
+markBy CoreInstances g pool row = coreInstanceMark g pool row
+markBy Instances g pool row = instanceMark g pool row
+markBy None g pool row = Clear
+
 abbrev pub firstAbove : ℕ → ℕ → List ℕ → List ℕ → Mark
-firstAbove family g pool row = cond (eqb family 7) (typeMark g pool row) (importMark g pool row)
+firstAbove family g pool row = markBy (entriesOf family) g pool row
 
--- the bytes that mark a form of grade 2: 43, 64, 65, 66; and of grade 3: 63, 67 and an import's 02
-abbrev pub markTwo : ℕ → List ℕ
-markTwo family = cond (eqb family 7) (0x43 ∷ 0x64 ∷ 0x65 ∷ 0x66 ∷ []) (0x64 ∷ [])
+-- the sites at which a row of a family can be marked
+abbrev pub sitesBy : Entries → List Site
+sitesBy Types = Primitive ∷ TypeLead ∷ []
+sitesBy Canonicals = CanonLead ∷ CanonOption ∷ []
+sitesBy Imports = Primitive ∷ NameLead ∷ []
+sitesBy CoreInstances = []
+sitesBy Instances = NameLead ∷ []
+sitesBy None = []
 
-abbrev pub markThree : ℕ → List ℕ
-markThree family = cond (eqb family 7) (0x63 ∷ 0x67 ∷ []) (0x02 ∷ [])
+abbrev pub sites : ℕ → List Site
+sites family = sitesBy (entriesOf family)
 
--- b marks a form above grade g
+-- b marks a form above grade g, by the table of grades
+abbrev pub MarkingAt : ℕ → ℕ → List Site → Type 0
+MarkingAt g b [] = ⊥
+MarkingAt g b (s ∷ ss) = (g < gradeOf s b) ⊎ MarkingAt g b ss
+
 abbrev pub Marking : ℕ → ℕ → ℕ → Type 0
-Marking family g b = ((g < 2) × Among b (markTwo family)) ⊎ ((g < 3) × Among b (markThree family))
+Marking family g b = MarkingAt g b (sites family)
 
 -- an item that is returned: its words at the front of the room, as many as the row has, and the bytes that were written
 pub record Returned (family : ℕ) (pool row input room : List ℕ) (l : LeftRow) : Type 0 where
@@ -112,22 +165,22 @@ otherWords = 7 ∷ 2 ∷ 6 ∷ 1 ∷ 4 ∷ 2 ∷ []
 
 pub record Demand3 : Type 0 where
   -- every valid row, every following bytes up to the limit, every grade and room
-  pub read-back : (family : ℕ) → Readable family → (row pool : List ℕ) → Words row → Valid family row pool
+  pub read-back : (family : ℕ) → Family family → (row pool : List ℕ) → Words row → Valid family row pool
       → (rest room : List ℕ) (g : ℕ) → 1 ≤ g → g ≤ 3 → length (production family pool row ++ rest) ≤ inputBytes
       → ReadBack (firstAbove family g pool row) family pool row (production family pool row ++ rest) room
       (reads family g (production family pool row ++ rest) room)
   -- whatever a reader of any grade returns for a valid row's bytes is that item
-  pub never-another : (family : ℕ) → Readable family → (row pool : List ℕ) → Words row → Valid family row pool
+  pub never-another : (family : ℕ) → Family family → (row pool : List ℕ) → Words row → Valid family row pool
       → (rest room after : List ℕ) (g words bytes : ℕ)
       → reads family g (production family pool row ++ rest) room ≡ leftRow (Item words bytes) after
       → (words ≡ length row) × (bytes ≡ length (production family pool row))
       × Same family pool row (production family pool row ++ rest) (take words after)
   -- the byte at NEWER's place marks a form above the grade
-  pub newer-at : (family : ℕ) → Readable family → (row pool : List ℕ) → Words row → Valid family row pool
+  pub newer-at : (family : ℕ) → Family family → (row pool : List ℕ) → Words row → Valid family row pool
       → (g j : ℕ) → 1 ≤ g → firstAbove family g pool row ≡ At j
       → (j < length (production family pool row)) × Marking family g (byte (production family pool row) j)
   -- what is accepted and took at most 65,536 bytes, written again with those bytes as the pool
-  pub written-again : (family : ℕ) → Readable family → (input room after : List ℕ) (g words bytes : ℕ) → Bytes input
+  pub written-again : (family : ℕ) → Family family → (input room after : List ℕ) (g words bytes : ℕ) → Bytes input
       → reads family g input room ≡ leftRow (Item words bytes) after → bytes ≤ poolBytes
       → WrittenAgain family g (take bytes input) (take words after)
   -- "same item" is not met by names that only run together alike: the flags are written as those bytes, and the other words are not the

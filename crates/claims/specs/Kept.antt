@@ -20,6 +20,8 @@ use Rattle.writing.specs.Write.{writeShape}
 use Rattle.items.specs.ReadType.{readType}
 use Rattle.types.specs.Write.{writeType, headShape, resultShape}
 use Rattle.items.specs.ReadImport.{readImport}
+use Rattle.canonical_items.specs.ReadCanonical.{readCanonical}
+use Rattle.instance_items.specs.ReadInstance.{readCoreInstance, readInstance}
 use Rattle.imports.specs.Write.{writeImport}
 use Rattle.canonicals.specs.Write.{writeCanonical}
 use Rattle.instances.specs.Write.{writeCoreInstance, writeInstance}
@@ -118,6 +120,9 @@ pub record ChangesNothingElse : Type 0 where
   pub write-instance : (row pool out : List ℕ) (at : ℕ) → Writes at out (writeInstance row pool out at)
   pub read-type : (g : ℕ) (input row : List ℕ) → Reads row (readType g input row)
   pub read-import : (g : ℕ) (input row : List ℕ) → Reads row (readImport g input row)
+  pub read-canonical : (g : ℕ) (input row : List ℕ) → Reads row (readCanonical g input row)
+  pub read-core-instance : (g : ℕ) (input row : List ℕ) → Reads row (readCoreInstance g input row)
+  pub read-instance : (g : ℕ) (input row : List ℕ) → Reads row (readInstance g input row)
   -- sections: row, open, head, result, abandon, and finish, which leaves the state to its owner
   pub write-by : (family : ℕ) (row pool body : List ℕ) (at : ℕ) → Writes at body (writeFamily family row pool body at)
   pub step-state : (k : Step) (s : Section) (body : List ℕ) → Turns k s (turn k s body)

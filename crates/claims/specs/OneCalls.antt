@@ -18,6 +18,7 @@ use Rattle.numbers.proofs.leb.seen_signed as call-seen-signed
 use Rattle.numbers.proofs.leb.short_signed as call-short-signed
 use Rattle.numbers.proofs.text.is_text as call-is-text
 use Rattle.numbers.proofs.text.spelling_of as call-spelling-of
+use Rattle.fields.proofs.grade_of as call-grade-of
 use Rattle.fields.proofs.is_indexed as call-is-indexed
 use Rattle.fields.proofs.kind_of as call-kind-of
 use Rattle.fields.proofs.two_of as call-two-of
@@ -53,12 +54,19 @@ use Rattle.imports.proofs.shape_of as call-shape-of-import
 use Rattle.imports.proofs.measure as call-measure-import
 use Rattle.imports.proofs.write as call-write-import
 use Rattle.items.proofs.read_import as call-read-import
+use Rattle.canonicals.proofs.class_of as call-class-of
+use Rattle.canonicals.proofs.shape_of as call-shape-of-canonical
 use Rattle.canonicals.proofs.measure as call-measure-canonical
 use Rattle.canonicals.proofs.write as call-write-canonical
+use Rattle.instances.proofs.core_shape_of as call-shape-of-core-instance
+use Rattle.instances.proofs.shape_of as call-shape-of-instance
 use Rattle.instances.proofs.measure_core as call-measure-core-instance
 use Rattle.instances.proofs.write_core as call-write-core-instance
 use Rattle.instances.proofs.measure as call-measure-instance
 use Rattle.instances.proofs.write as call-write-instance
+use Rattle.canonical_items.proofs.read_canonical as call-read-canonical
+use Rattle.instance_items.proofs.read_core_instance as call-read-core-instance
+use Rattle.instance_items.proofs.read_instance as call-read-instance
 use Rattle.sections.proofs.write_by as call-write-by
 use Rattle.sections.proofs.Section.new as call-new
 use Rattle.sections.proofs.Section.row as call-row
@@ -123,6 +131,7 @@ pub record NoSecondOutcome : Type 2 where
   pub is-text : OneOutcome call-is-text.ended (λ M. call-is-text.clauses)
   pub spelling-of : OneOutcome call-spelling-of.ended (λ M. call-spelling-of.clauses)
   -- fields
+  pub grade-of : OneOutcome call-grade-of.ended (λ M. call-grade-of.clauses)
   pub is-indexed : OneOutcome call-is-indexed.ended (λ M. call-is-indexed.clauses)
   pub kind-of : OneOutcome call-kind-of.ended (λ M. call-kind-of.clauses)
   pub two-of : OneOutcome call-two-of.ended (λ M. call-two-of.clauses)
@@ -161,9 +170,13 @@ pub record NoSecondOutcome : Type 2 where
   pub measure-import : OneOutcome call-measure-import.ended (λ M. call-measure-import.clauses)
   pub write-import : OneOutcome call-write-import.ended (λ M. call-write-import.clauses)
   -- canonicals
+  pub class-of : OneOutcome call-class-of.ended (λ M. call-class-of.clauses)
+  pub shape-of-canonical : OneOutcome call-shape-of-canonical.ended (λ M. call-shape-of-canonical.clauses)
   pub measure-canonical : OneOutcome call-measure-canonical.ended (λ M. call-measure-canonical.clauses)
   pub write-canonical : OneOutcome call-write-canonical.ended (λ M. call-write-canonical.clauses)
   -- instances
+  pub shape-of-core-instance : OneOutcome call-shape-of-core-instance.ended (λ M. call-shape-of-core-instance.clauses)
+  pub shape-of-instance : OneOutcome call-shape-of-instance.ended (λ M. call-shape-of-instance.clauses)
   pub measure-core-instance : OneOutcome call-measure-core-instance.ended (λ M. call-measure-core-instance.clauses)
   pub write-core-instance : OneOutcome call-write-core-instance.ended (λ M. call-write-core-instance.clauses)
   pub measure-instance : OneOutcome call-measure-instance.ended (λ M. call-measure-instance.clauses)
@@ -171,6 +184,10 @@ pub record NoSecondOutcome : Type 2 where
   -- items
   pub read-type : OneOutcome call-read-type.ended (λ M. call-read-type.clauses)
   pub read-import : OneOutcome call-read-import.ended (λ M. call-read-import.clauses)
+  -- canonical_items, instance_items
+  pub read-canonical : OneOutcome call-read-canonical.ended (λ M. call-read-canonical.clauses)
+  pub read-core-instance : OneOutcome call-read-core-instance.ended (λ M. call-read-core-instance.clauses)
+  pub read-instance : OneOutcome call-read-instance.ended (λ M. call-read-instance.clauses)
   -- sections
   pub write-by : OneOutcome call-write-by.ended (λ M. call-write-by.clauses)
   pub new : OneOutcome call-new.ended (λ M. call-new.clauses)

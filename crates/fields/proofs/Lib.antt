@@ -1,3 +1,4 @@
+pub mod GradeLaws
 pub mod LoopLaws
 pub mod NearLaws
 pub mod RunLaws

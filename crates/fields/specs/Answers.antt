@@ -25,6 +25,7 @@ numberOfRefusal refusal.Code = 12
 numberOfRefusal refusal.Number = 13
 numberOfRefusal refusal.Newer = 14
 numberOfRefusal refusal.Sheet = 15
+numberOfRefusal refusal.Frame = 16
 
 -- the offset of a byte in a name, by its halves, and the byte at an offset
 abbrev pub offsetOf : ℕ → Offset
@@ -50,6 +51,7 @@ byteOfRefusal refusal.Code = 0
 byteOfRefusal refusal.Number = 0
 byteOfRefusal refusal.Newer = 0
 byteOfRefusal refusal.Sheet = 0
+byteOfRefusal refusal.Frame = 0
 
 unfoldable pub numberOf : Answer → ℕ
 numberOf (Size n) = 0

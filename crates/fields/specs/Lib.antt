@@ -1,4 +1,5 @@
 pub mod Answers
+pub mod Grades
 pub mod Limits
 pub mod Shape
 pub mod Table

@@ -1,8 +1,10 @@
 // The words of the trade: the fields of a row, the shape of a kind, refusals and answers.
+mod grades;
 mod refusals;
 mod shapes;
 mod words;
 
+pub use grades::grade_of;
 pub use refusals::byte_of;
 pub use refusals::number_of;
 pub use refusals::offset_of;
@@ -88,6 +90,20 @@ pub struct Offset {
     pub low: u16,
 }
 
+// Where a byte stands that can mark a form of a grade.
+pub enum Site {
+    // A primitive type.
+    Primitive,
+    // The first byte of a type.
+    TypeLead,
+    // The first byte of an extern name.
+    NameLead,
+    // The first byte of a canonical.
+    CanonLead,
+    // An option of a canonical.
+    CanonOption,
+}
+
 // Why something is refused, by document 01's names and in the order of its numbers, from 1 on.
 pub enum Refusal {
     // A number on the wall is passed, or a state is none.
@@ -120,6 +136,8 @@ pub enum Refusal {
     Newer,
     // A sheet of another version, without a row, or with broken framing.
     Sheet,
+    // A section whose frame ends inside its count or an entry, or between entries too early, or has bytes behind the last.
+    Frame,
 }
 
 // Whether the words of a field are right.

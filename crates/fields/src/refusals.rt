@@ -24,6 +24,7 @@ pub fn number_of(why: Refusal) -> u32
         Refusal::Number => 13,
         Refusal::Newer => 14,
         Refusal::Sheet => 15,
+        Refusal::Frame => 16,
     }
 }
 
@@ -65,5 +66,6 @@ pub fn byte_of(why: Refusal) -> u32
         Refusal::Number => 0,
         Refusal::Newer => 0,
         Refusal::Sheet => 0,
+        Refusal::Frame => 0,
     }
 }

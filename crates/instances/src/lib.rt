@@ -41,7 +41,7 @@ fn export_items(one: Field, two: Field) -> Found
 }
 
 // The shape of a kind of core instance: a line of the table for each.
-fn core_shape_of(kind: u32) -> Found
+pub fn core_shape_of(kind: u32) -> Found
     ensures { λ r. ⌜ r ≡ coreShapeOf kind ⌝ }
 {
     match kind {
@@ -52,7 +52,7 @@ fn core_shape_of(kind: u32) -> Found
 }
 
 // The shape of a kind of instance: a line of the table for each.
-fn shape_of(kind: u32) -> Found
+pub fn shape_of(kind: u32) -> Found
     ensures { λ r. ⌜ r ≡ shapeOf kind ⌝ }
 {
     match kind {

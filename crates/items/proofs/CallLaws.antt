@@ -1,60 +1,73 @@
 -- From what reading by the first byte leaves to what `types::read` answers, within the limits and outside.
 use Prim.Native.Nat.{ℕ, _≤_, _<_, _^_}
 use native.Mathlib.Omega.{arith}
-use mathlib.Core.Path.{_≡_, refl, sym, ap, _∙_}
+use mathlib.Core.Path.{_≡_, refl, sym, ap, _∙_, subst}
+use mathlib.Core.Logic.{_⊎_, inl, inr}
 use mathlib.Core.Bool.{Bool, true, false, cond}
 use mathlib.Core.List.{List}
-use borrow.Author.Tests.{ltb-false, eqb-true}
+use borrow.Author.Tests.{ltb-false}
 use lib.Dec.{eqb, ltb}
 use lib.ListN.{length, getD}
+use Rattle.fields.specs.declared.Field.{Field}
 use Rattle.fields.specs.declared.Field.the-variants as field
 use Rattle.fields.specs.declared.Found.{Found}
+use Rattle.fields.specs.declared.Found.the-variants as found
+use Rattle.fields.specs.declared.Found.the-variants.{Is}
+use Rattle.fields.specs.declared.Site.{Site}
+use Rattle.fields.specs.declared.Site.the-variants.{TypeLead}
+use Rattle.fields.specs.Grades as grades
+use Rattle.fields.specs.Grades.{gradeOf, fixedByte}
 use Rattle.fields.specs.declared.Leaf.the-variants.{Fine, Bad}
 use Rattle.fields.specs.declared.Read.the-variants as read
 use Rattle.fields.specs.declared.Refusal.the-variants as refusal
 use Rattle.fields.specs.Answers.{leftRow}
 use Rattle.reading.specs.Read.{readFound, readItem, scannedFound, scannedItem, refusalOf}
 use Rattle.reading.specs.Scan.{byte}
-use Rattle.fields.specs.Table.{shapeIn}
 use Rattle.reading.specs.declared.Tried.{Tried}
 use Rattle.reading.specs.declared.Tried.the-variants.{Item, Not}
 use Rattle.reading.specs.Seen.{within}
 use Rattle.reading.specs.inside.Tried.{leftTried, triedFound}
 use Rattle.reading.proofs.TriedLaws.{within-limits, call-done, call-not, call-outside, lead-newer}
 use Rattle.items.specs.ReadType.{kindOf, leadGrade, readType}
-use Rattle.types.specs.Table.{two}
 use Rattle.types.specs.Write.{shapeOf}
 use Rattle.numbers.proofs.Impossible.{impossible}
 
+-- a field is a fixed byte, or begins with none
+lead-is : (l : Field) → ((b : ℕ) × (l ≡ field.Fixed b)) ⊎ (fixedByte l ≡ 0)
+lead-is field.Nothing = inr refl
+lead-is (field.Fixed b) = inl (b, refl)
+lead-is field.Primitive = inr refl
+lead-is field.Value = inr refl
+lead-is field.Optional = inr refl
+lead-is field.OptionalThenZero = inr refl
+lead-is field.Result = inr refl
+lead-is field.Name = inr refl
+lead-is field.Index = inr refl
+lead-is field.Async = inr refl
+lead-is field.Flag = inr refl
+lead-is field.Rep = inr refl
+lead-is field.OptionalIndex = inr refl
+lead-is field.Choice = inr refl
+lead-is field.ExternName = inr refl
+lead-is field.Reference = inr refl
+lead-is field.Argument = inr refl
+lead-is field.CoreSortIndex = inr refl
+lead-is field.SortIndex = inr refl
+
 -- an item whose lead is above the grade is not whole
+pub lead-none : (site : Site) → gradeOf site 0 ≡ 1 → (f : Found) (g : ℕ) (input : List ℕ) → 1 ≤ g → g < grades.leadGrade site f → (e q : ℕ)
+    → scannedFound f (grades.leadGrade site f) g input ≡ Fine e q → ⊥
+lead-none site base found.Not g input low h e q is = impossible cc
+lead-none site base (Is s) g input low h e q is = go (lead-is (s .lead))
+  where
+    go : ((b : ℕ) × (s .lead ≡ field.Fixed b)) ⊎ (fixedByte (s .lead) ≡ 0) → ⊥
+    go (inl (b, p)) = lead-newer (grades.leadGrade site (Is s)) g b s input p h e q is
+    go (inr z) = let x : g < 1 = subst (λ n. g < n) (ap (gradeOf site) z ∙ base) h in absurd (omega (arith, x, low))
+
 newer-none : (k g : ℕ) (input : List ℕ) → 1 ≤ g → g < leadGrade k → (e q : ℕ)
     → scannedFound (shapeOf k) (leadGrade k) g input ≡ Fine e q → ⊥
-unfolding leadGrade shapeIn
-newer-none k g input low h e q is = four (eqb k 4) refl
-  where
-    fourteen : (t : Bool) → eqb k 14 ≡ t → eqb k 4 ≡ false → eqb k 5 ≡ false → eqb k 13 ≡ false → ⊥
-    fourteen true t a b c =
-        let n = eqb-true k 14 t in
-        lead-newer 2 g 0x66 (two 0x66 field.Optional field.Nothing) input refl (rw n at h) e q (rw n at is)
-    fourteen false t a b c = let x : g < 1 = simp (a, b, c, t) at h in absurd (omega arith)
-
-    thirteen : (t : Bool) → eqb k 13 ≡ t → eqb k 4 ≡ false → eqb k 5 ≡ false → ⊥
-    thirteen true t a b =
-        let n = eqb-true k 13 t in
-        lead-newer 2 g 0x65 (two 0x65 field.Optional field.Nothing) input refl (rw n at h) e q (rw n at is)
-    thirteen false t a b = fourteen (eqb k 14) refl a b t
-
-    five : (t : Bool) → eqb k 5 ≡ t → eqb k 4 ≡ false → ⊥
-    five true t a =
-        let n = eqb-true k 5 t in
-        lead-newer 3 g 0x67 (two 0x67 field.Value field.Index) input refl (rw n at h) e q (rw n at is)
-    five false t a = thirteen (eqb k 13) refl a t
-
-    four : (t : Bool) → eqb k 4 ≡ t → ⊥
-    four true t =
-        let n = eqb-true k 4 t in
-        lead-newer 3 g 0x63 (two 0x63 field.Value field.Value) input refl (rw n at h) e q (rw n at is)
-    four false t = five (eqb k 5) refl t
+unfolding leadGrade
+newer-none k g input low h e q is = lead-none TypeLead refl (shapeOf k) g input low h e q is
 
 -- a grade below 1
 no-grade : (f : Found) (k lead g : ℕ) (input row : List ℕ) → ltb g 1 ≡ true

@@ -2,6 +2,7 @@ pub mod ArmLaws
 pub mod CallLaws
 pub mod CountLaws
 pub mod EndLaws
+pub mod GradeLaws
 pub mod ItemLaws
 pub mod NameLaws
 pub mod OnceLaws

@@ -30,7 +30,8 @@ use Rattle.reading.proofs.LeafLaws.{index-seen}
 use Rattle.reading.proofs.StepLaws.{Wrong, pair-some, pair-none, name-at, scan-takes}
 use Rattle.items.specs.declared.import.Slot.{Slot}
 use Rattle.items.specs.declared.import.Extern.{Extern}
-use Rattle.items.specs.inside.Import.{noSlot, slotWords, SlotTold, Says, ExternTold, OptionsTold}
+use Rattle.items.specs.ReadExtern.{slotWords, Says}
+use Rattle.items.specs.inside.Import.{noSlot, SlotTold, ExternTold, OptionsTold}
 use Rattle.numbers.proofs.Impossible.{impossible}
 
 -- ---- strings

@@ -7,9 +7,9 @@ use mathlib.Core.Path.{_≡_, refl, sym, ap, _∙_}
 use mathlib.Core.Bool.{Bool, true, false, cond}
 use mathlib.Core.List.{List, [], _∷_, _++_}
 use lib.Dec.{eqb, ltb}
-use lib.ListN.{length, drop, set, length-set, length-drop}
+use lib.ListN.{length, getD, drop, set, length-set, length-drop}
 use lib.Seq.{sets, length-sets}
-use borrow.Author.Tests.{lt-leb, le-leb, ltb-false, eqb-false}
+use borrow.Author.Tests.{lt-ltb, lt-leb, le-leb, ltb-true, ltb-false, eqb-false}
 use Rattle.fields.specs.declared.Field.the-variants as field
 use Rattle.fields.specs.declared.Found.{Found}
 use Rattle.fields.specs.declared.Leaf.{Leaf}
@@ -17,7 +17,7 @@ use Rattle.fields.specs.declared.Leaf.the-variants.{Fine, Bad}
 use Rattle.fields.specs.declared.Read.the-variants as read
 use Rattle.fields.specs.declared.Refusal.the-variants as refusal
 use Rattle.fields.specs.Words.{word, wide}
-use Rattle.reading.specs.Fill.{fill, fillExtern}
+use Rattle.reading.specs.Fill.{fill, fillName, fillExtern}
 use Rattle.fields.specs.Answers.{leftRow}
 use Rattle.reading.specs.Read.{readFound, readItem, scannedFound, scannedItem, refusalOf}
 use Rattle.fields.specs.inside.Run.{along, makes}
@@ -33,7 +33,8 @@ use Rattle.reading.proofs.StepLaws.{scan-takes, fill-at}
 use Rattle.reading.proofs.TriedLaws.{within-limits, call-done, call-not, front-scanned, front-filled}
 use Rattle.items.specs.declared.import.Three.{Three}
 use Rattle.items.specs.declared.import.Extern.{Extern}
-use Rattle.items.specs.inside.Import.{threeOf, three, slotWords, externWords, Says, ExternTold}
+use Rattle.items.specs.ReadExtern.{slotWords, externWords, Says, externWithin, valueOfExtern, valueOf, readExtern, ExternRead}
+use Rattle.items.specs.inside.Import.{threeOf, three, ExternTold}
 use Rattle.items.specs.ReadImport.{readImport}
 use Rattle.imports.specs.Write.{shapeOf}
 use Rattle.numbers.proofs.Impossible.{impossible}
@@ -263,3 +264,38 @@ module _ (g : ℕ) (input row : List ℕ) where
       → leftRow (refusalOf (scannedItem (shapeOf 17) 1 g input)) row ≡ readImport g input row
   unfolding readImport
   read-outside h = call-outside-one (shapeOf 17) 17 g input row h
+
+-- ---- an extern name by value
+
+pub extern-inside : (g : ℕ) (input : List ℕ) (e : Extern) → within 1 g input ≡ true → ExternTold g input e → ExternRead g input e
+unfolding externWithin
+extern-inside g input e h x = rw h x
+
+pub extern-outside : (g : ℕ) (input : List ℕ) (e : Extern) → within 1 g input ≡ false → e .took ≡ 0 → ExternRead g input e
+unfolding externWithin
+extern-outside g input e h x = rw h x
+
+-- what is told of an extern name, and its value
+says-value : (l : Leaf) (ws : List ℕ) (r : Extern) → Says l ws r → valueOfExtern r ≡ valueOf l ws
+says-value (Fine t m) ws r h = simp (lt-ltb 0 (r .took) (h .0)) (λ i. h .1 i ∷ h .2 i)
+says-value (Bad w j) ws r h = rw h refl
+
+value-says : (l : Leaf) (ws : List ℕ) (r : Extern) → 1 ≤ length ws → valueOfExtern r ≡ valueOf l ws → Says l ws r
+value-says (Fine t m) ws r some e = go (ltb 0 (r .took)) refl e
+  where
+    go : (b : Bool) → ltb 0 (r .took) ≡ b → cond b (r .took ∷ externWords r) (0 ∷ []) ≡ t ∷ ws → Says (Fine t m) ws r
+    go true p e = (ltb-true 0 (r .took) p, ap (λ l. getD l 0 0) e, ap (λ l. drop 1 l) e)
+    go false p e = absurd (omega (arith, ap length e, some))
+value-says (Bad w j) ws r some e = go (ltb 0 (r .took)) refl e
+  where
+    go : (b : Bool) → ltb 0 (r .took) ≡ b → cond b (r .took ∷ externWords r) (0 ∷ []) ≡ 0 ∷ [] → r .took ≡ 0
+    go true p e = absurd (omega (arith, ap length e))
+    go false p e = let n = ltb-false 0 (r .took) p in omega (arith, n)
+
+pub read-value : (g : ℕ) (input : List ℕ) (r : Extern) → ExternRead g input r → valueOfExtern r ≡ readExtern g input
+unfolding readExtern
+read-value g input r h = says-value (externWithin g input) (fillExtern g 0 input) r h
+
+pub read-says : (g : ℕ) (input : List ℕ) (r : Extern) → valueOfExtern r ≡ readExtern g input → ExternRead g input r
+unfolding readExtern fillExtern fillName
+read-says g input r e = value-says (externWithin g input) (fillExtern g 0 input) r (omega arith) e

@@ -1,3 +1,4 @@
+pub mod ReadExtern
 pub mod ReadImport
 pub mod ReadType
 pub mod inside

@@ -4,6 +4,8 @@ use Prim.Native.Nat.{ℕ}
 use mathlib.Core.Bool.{cond}
 use lib.Dec.{eqb, ltb}
 use Rattle.fields.specs.Answers.{LeftRow}
+use Rattle.fields.specs.declared.Site.the-variants.{TypeLead}
+use Rattle.fields.specs.Grades as grades
 use Rattle.reading.specs.Read.{readItem}
 use Rattle.reading.specs.Scan.{byte}
 use Rattle.types.specs.Write.{shapeOf}
@@ -51,9 +53,9 @@ kindIn (f ∷ fs) b = cond (eqb b (f .begins)) (f .kind) (kindIn fs b)
 unfoldable pub kindOf : ℕ → ℕ
 kindOf b = cond (ltb b 0x73) (kindIn firsts b) (cond (ltb b 0x80) 0 17)
 
--- the grade of a kind's lead: 63 and 67 are of grade 3, 65 and 66 of grade 2
+-- the grade of a kind's lead
 unfoldable pub leadGrade : ℕ → ℕ
-leadGrade k = cond (eqb k 4) 3 (cond (eqb k 5) 3 (cond (eqb k 13) 2 (cond (eqb k 14) 2 1)))
+leadGrade k = grades.leadGrade TypeLead (shapeOf k)
 
 unfoldable pub readType : ℕ → List ℕ → List ℕ → LeftRow
 readType g input row =

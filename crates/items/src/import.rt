@@ -10,7 +10,8 @@ ghost use lib.ListN.{length};
 ghost use Rattle.fields.specs.declared.Leaf.the-variants.{Fine};
 ghost use Rattle.reading.specs.Fill.{fillSlot};
 ghost use Rattle.reading.specs.Scan.{byte, slotScan};
-ghost use Rattle.items.specs.inside.Import.{three, noThree, indexedThree, noSlot, SlotTold, ExternTold, OptionsTold, slotWords, externWords};
+ghost use Rattle.items.specs.inside.Import.{three, noThree, indexedThree, noSlot, SlotTold, ExternTold, OptionsTold};
+ghost use Rattle.items.specs.ReadExtern.{slotWords, externWords};
 ghost use Rattle.fields.specs.Limits.{inputBytes};
 ghost use mathlib.Core.List.{_∷_, [], _++_};
 ghost use lib.Seq.{sets};
@@ -198,7 +199,7 @@ fn slot_at(k: u8, input: &[u8], at: usize, due: u32) -> Slot
     no_slot(at, due)
 }
 
-fn no_extern() -> Extern
+pub fn no_extern() -> Extern
     ensures { λ r. ⌜ r .took ≡ 0 ⌝ }
 {
     let none = no_slot(0, 0);

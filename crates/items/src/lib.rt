@@ -6,9 +6,13 @@ mod item;
 mod resource;
 
 use fields::Read;
+use fields::Site;
+pub use import::Extern;
+pub use import::Slot;
 use reading::Tried;
 ghost use mathlib.Core.Path.{_≡_};
 ghost use Rattle.fields.specs.Answers.{leftRow};
+ghost use Rattle.items.specs.ReadExtern.{valueOfExtern, readExtern};
 ghost use Rattle.items.specs.ReadImport.{readImport};
 ghost use Rattle.items.specs.ReadType.{kindOf, leadGrade, readType};
 
@@ -50,10 +54,14 @@ fn lead_grade(kind: u32) -> u32
     ensures { λ r. ⌜ r ≡ leadGrade kind ⌝ }
 {
     match kind {
-        4 => 3,
-        5 => 3,
-        13 => 2,
-        14 => 2,
+        // map
+        4 => fields::grade_of(Site::TypeLead, 0x63),
+        // list of fixed length
+        5 => fields::grade_of(Site::TypeLead, 0x67),
+        // future
+        13 => fields::grade_of(Site::TypeLead, 0x65),
+        // stream
+        14 => fields::grade_of(Site::TypeLead, 0x66),
         _ => 1,
     }
 }
@@ -89,4 +97,15 @@ pub fn read_import(input: &[u8], grade: u32, row: &mut [u32]) -> Read
         }
     }
     reading::item_refusal(imports::shape_of(17), 1, grade, input)
+}
+
+// The extern name at the front of an input within the limits, by value: it takes 0 bytes where there is none that is right, and its
+// starts are counted from the front.
+pub fn extern_name(grade: u32, input: &[u8]) -> Extern
+    ensures { λ r. ⌜ valueOfExtern r ≡ readExtern grade (now (input .entry)) ⌝ }
+{
+    if reading::is_within(1, grade, input) {
+        return import::extern_name(grade, &input[0..]);
+    }
+    import::no_extern()
 }

@@ -22,6 +22,8 @@ use Rattle.fields.specs.declared.Leaf.the-variants.{Fine, Bad}
 use Rattle.fields.specs.Answers.{offsetOf}
 use Rattle.fields.specs.Words.{indexed, wide}
 use Rattle.reading.specs.inside.Stages.{Inside}
+use Rattle.fields.specs.Grades.{gradeOf}
+use Rattle.fields.specs.declared.Site.the-variants.{CanonOption}
 use Rattle.reading.specs.Scan.{byte, cut, there, asked, past, numbered, scanIndex, named, scanName, scanPrimitive, scanValue, zeroAt, either, scanOptional, thenZero, scanResult, scanChoice, onward, stringAt, counted, countAt, slotScan, endScan, headScan, firstScan, secondScan, scanExtern, scanBound, scanModule, three, scanReference, scanEither, scanOptionalIndex, scan, scanArgument, scanCoreSortIndex, scanSortIndex}
 
 -- a field takes at most n bytes and makes w words; a fault stands within n bytes
@@ -163,11 +165,14 @@ optional-index-near : (bs : List ℕ) → Near (length bs) (Words 2) (scanOption
 unfolding scanOptionalIndex
 optional-index-near bs = either-near bs 0x00 0x01 (λ h. fine 1 2 h refl) (λ h. index-behind 2 1 bs h)
 
-choice-near : (bs : List ℕ) → Near (length bs) (Words 2) (scanChoice bs)
+choice-near : (g : ℕ) (bs : List ℕ) → Near (length bs) (Words 2) (scanChoice g bs)
 unfolding scanChoice
-choice-near bs =
+choice-near g bs =
     there-near bs 0
-    (λ h. cond-near (ltb (byte bs 0) 10) (cond-near (indexed (byte bs 0)) (index-behind 2 1 bs h) (fine 1 2 h refl)) (bad _ 0 (omega arith)))
+    (λ h.
+    cond-near (ltb (byte bs 0) 10)
+    (asked-near g (gradeOf CanonOption (byte bs 0)) (cond-near (indexed (byte bs 0)) (index-behind 2 1 bs h) (fine 1 2 h refl)))
+    (bad _ 0 (omega arith)))
 
 -- ---- extern names: each step ends inside the input
 
@@ -268,7 +273,7 @@ scan-near lead g field.Async bs = either-byte-near g 2 0x40 0x43 bs
 scan-near lead g field.Flag bs = either-byte-near g 1 0x00 0x01 bs
 scan-near lead g field.Rep bs = either-byte-near g 1 0x7f 0x7e bs
 scan-near lead g field.OptionalIndex bs = optional-index-near bs
-scan-near lead g field.Choice bs = choice-near bs
+scan-near lead g field.Choice bs = choice-near g bs
 scan-near lead g field.ExternName bs = extern-near g bs
 scan-near lead g field.Reference bs = reference-near g bs
 scan-near lead g field.Argument bs = argument-near bs

@@ -23,6 +23,8 @@ use Rattle.fields.specs.declared.Refusal.{Refusal}
 use Rattle.fields.specs.Words.{word, indexed, wide}
 use Rattle.reading.specs.Fill.{valueIn, sizeIn, index, fillName, fill}
 use Rattle.fields.specs.inside.Run.{along, makes, Under}
+use Rattle.fields.specs.Grades.{gradeOf}
+use Rattle.fields.specs.declared.Site.the-variants.{CanonOption}
 use Rattle.reading.specs.Scan.{byte, there, asked, past, numbered, scanIndex, named, scanName, scanPrimitive, scanValue, zeroAt, either, scanOptional, thenZero, scanResult, scanChoice, onward, stringAt, counted, countAt, slotScan, endScan, headScan, firstScan, secondScan, scanExtern, scanBound, scanModule, three, scanReference, scanEither, scanOptionalIndex, scan, scanArgument, scanCoreSortIndex, scanSortIndex}
 use Rattle.fields.specs.Shape.{repeated, widths}
 use Rattle.fields.specs.Walk.{next, took}
@@ -189,12 +191,14 @@ optional-index-some : (bs : List ℕ) → Some (scanOptionalIndex bs)
 unfolding scanOptionalIndex
 optional-index-some bs = either-some bs 0x00 0x01 (fine 1 2 (omega arith)) (past-some 1 (omega arith) (scanIndex 2 (drop 1 bs)))
 
-choice-some : (bs : List ℕ) → Some (scanChoice bs)
+choice-some : (g : ℕ) (bs : List ℕ) → Some (scanChoice g bs)
 unfolding scanChoice
-choice-some bs =
+choice-some g bs =
     there-some bs 0
     (cond-some (ltb (byte bs 0) 10)
-    (cond-some (indexed (byte bs 0)) (past-some 1 (omega arith) (scanIndex 2 (drop 1 bs))) (fine 1 2 (omega arith))) (bad _ _))
+    (asked-some g (gradeOf CanonOption (byte bs 0)) 0
+    (cond-some (indexed (byte bs 0)) (past-some 1 (omega arith) (scanIndex 2 (drop 1 bs))) (fine 1 2 (omega arith))))
+    (bad _ _))
 
 -- extern names: each step hands on a place past the first byte
 onward-some : {l : Leaf} {k : ℕ → ℕ → Leaf} → Some l → ((at due : ℕ) → 0 < at → Some (k at due)) → Some (onward l k)
@@ -264,7 +268,7 @@ scan-some g field.Async bs h = either-byte-some g 2 0x40 0x43 bs
 scan-some g field.Flag bs h = either-byte-some g 1 0x00 0x01 bs
 scan-some g field.Rep bs h = either-byte-some g 1 0x7f 0x7e bs
 scan-some g field.OptionalIndex bs h = optional-index-some bs
-scan-some g field.Choice bs h = choice-some bs
+scan-some g field.Choice bs h = choice-some g bs
 scan-some g field.ExternName bs h = extern-some g bs
 scan-some g field.Reference bs h = reference-some g bs
 scan-some g field.Argument bs h = there-some bs 0 (cond-some (eqb (byte bs 0) 0x12) (past-some 1 (omega arith) (scanIndex 1 (drop 1 bs))) (bad _ _))

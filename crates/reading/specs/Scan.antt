@@ -16,6 +16,9 @@ use Rattle.fields.specs.declared.Refusal.the-variants.{Text, Cut, Code, Number,
 use Rattle.fields.specs.declared.Leaf.{Leaf}
 use Rattle.fields.specs.declared.Leaf.the-variants.{Fine, Bad}
 use Rattle.fields.specs.Answers.{offsetOf}
+use Rattle.fields.specs.Grades.{gradeOf}
+use Rattle.fields.specs.declared.Site.the-variants.{TypeLead, NameLead, CanonOption}
+use Rattle.fields.specs.declared.Site.the-variants as site
 use Rattle.fields.specs.Words.{indexed}
 
 -- the byte at i
@@ -57,9 +60,9 @@ named bs taken.Bad = Bad Number 0
 unfoldable pub scanName : List ℕ → Leaf
 scanName bs = named bs (takeUnsigned bs)
 
--- a primitive: 7f down to 73, and 64 of grade 2
+-- a primitive: 7f down to 73, and 64, which is of a grade
 unfoldable pub scanPrimitive : ℕ → ℕ → Leaf → Leaf
-scanPrimitive g b l = cond (eqb b 0x64) (asked g 2 0 l) (cond (ltb b 0x73) (Bad Code 0) (cond (ltb b 0x80) l (Bad Code 0)))
+scanPrimitive g b l = cond (eqb b 0x64) (asked g (gradeOf site.Primitive 0x64) 0 l) (cond (ltb b 0x73) (Bad Code 0) (cond (ltb b 0x80) l (Bad Code 0)))
 
 -- V: an index below 40 in one byte, a primitive, or a number of many bytes
 unfoldable pub scanValue : ℕ → List ℕ → Leaf
@@ -87,9 +90,12 @@ thenZero bs (Bad w j) = Bad w j
 unfoldable pub scanResult : ℕ → List ℕ → Leaf
 scanResult g bs = either bs 0x00 (past 1 (scanValue g (drop 1 bs))) 0x01 (zeroAt bs 1 (Fine 2 2))
 
-unfoldable pub scanChoice : List ℕ → Leaf
-scanChoice bs =
-    there bs 0 (cond (ltb (byte bs 0) 10) (cond (indexed (byte bs 0)) (past 1 (scanIndex 2 (drop 1 bs))) (Fine 1 2)) (Bad Code 0))
+-- an option: its byte, and its index where it has one
+abbrev pub chosen : List ℕ → Leaf
+chosen bs = cond (indexed (byte bs 0)) (past 1 (scanIndex 2 (drop 1 bs))) (Fine 1 2)
+
+unfoldable pub scanChoice : ℕ → List ℕ → Leaf
+scanChoice g bs = there bs 0 (cond (ltb (byte bs 0) 10) (asked g (gradeOf CanonOption (byte bs 0)) 0 (chosen bs)) (Bad Code 0))
 
 -- ---- extern names: steps that hand on a place and how many options are still to come
 
@@ -122,7 +128,7 @@ endScan bs at due = cond (eqb due 0) (Fine at 11) (there bs at (Bad Code at))
 -- lead, name and count: where the options begin, and how many there are
 unfoldable pub headScan : ℕ → List ℕ → Leaf
 headScan g bs =
-    either bs 0x00 (stringAt bs 1 0) 0x02 (asked g 3 0 (onward (stringAt bs 1 0) (λ at due. countAt bs at)))
+    either bs 0x00 (stringAt bs 1 0) 0x02 (asked g (gradeOf NameLead 0x02) 0 (onward (stringAt bs 1 0) (λ at due. countAt bs at)))
 
 unfoldable pub firstScan : ℕ → List ℕ → Leaf
 firstScan g bs = onward (headScan g bs) (slotScan 0x00 bs)
@@ -185,11 +191,11 @@ scan lead g field.OptionalThenZero bs = thenZero bs (scanOptional g bs)
 scan lead g field.Result bs = scanResult g bs
 scan lead g field.Name bs = scanName bs
 scan lead g field.Index bs = scanIndex 1 bs
-scan lead g field.Async bs = scanEither g 2 0x40 0x43 bs
+scan lead g field.Async bs = scanEither g (gradeOf TypeLead 0x43) 0x40 0x43 bs
 scan lead g field.Flag bs = scanEither g 1 0x00 0x01 bs
 scan lead g field.Rep bs = scanEither g 1 0x7f 0x7e bs
 scan lead g field.OptionalIndex bs = scanOptionalIndex bs
-scan lead g field.Choice bs = scanChoice bs
+scan lead g field.Choice bs = scanChoice g bs
 scan lead g field.ExternName bs = scanExtern g bs
 scan lead g field.Reference bs = scanReference g bs
 scan lead g field.Argument bs = scanArgument bs

@@ -5,6 +5,8 @@ mod scan;
 
 use fields::INPUT_BYTES;
 use fields::ROW_WORDS;
+use fields::Site;
+use fields::grade_of;
 pub use item::item_refusal;
 use numbers::Number;
 ghost use Prim.Native.Nat.{_≤_};
@@ -44,7 +46,7 @@ fn is_primitive(grade: u32, b: u8) -> bool
     ensures { λ r. ⌜ r ≡ isPrimitive grade b ⌝ }
 {
     if b == 0x64 {
-        return 2 <= grade;
+        return grade_of(Site::Primitive, 0x64) <= grade;
     }
     if b < 0x73 {
         return false;

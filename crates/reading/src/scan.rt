@@ -2,16 +2,20 @@
 use fields::Field;
 use fields::Leaf;
 use fields::Refusal;
+use fields::Site;
+use fields::grade_of;
 use fields::is_indexed;
 use fields::offset_of;
 use numbers::Spelling;
 use numbers::Taken;
 ghost use mathlib.Core.Path.{_≡_};
+ghost use mathlib.Core.Bool.{cond};
 ghost use Prim.Native.Nat.{_<_, _≤_, _+_, _^_};
 ghost use lib.ListN.{length, getD, drop};
 ghost use Rattle.reading.specs.Scan.{cut, there, asked, past, scanIndex, scanName, scanPrimitive, scanValue, zeroAt, scanOptional, thenZero, scanResult, scanChoice, onward, stringAt, countAt, slotScan, endScan, headScan, firstScan, secondScan, scanExtern, scanBound, scanModule, three, scanReference, scanEither, scanOptionalIndex, scanArgument, scanCoreSortIndex, scanSortIndex, scan};
 ghost use Rattle.reading.specs.inside.Stages.{Inside};
 ghost use Rattle.fields.specs.Limits.{inputBytes};
+ghost use Rattle.fields.specs.Words.{indexed};
 
 // The byte at i, 0 past the end.
 fn byte_at(bs: &[u8], i: usize) -> u8
@@ -97,7 +101,7 @@ fn primitive_or(grade: u32, b: u8, l: Leaf) -> Leaf
     ensures { λ r. ⌜ r ≡ scanPrimitive grade b l ⌝ }
 {
     if b == 0x64 {
-        return asked_at(grade, 2, 0, l);
+        return asked_at(grade, grade_of(Site::Primitive, 0x64), 0, l);
     }
     if b < 0x73 {
         return Leaf::Bad(Refusal::Code, 0);
@@ -204,19 +208,27 @@ fn scan_result(grade: u32, bs: &[u8]) -> Leaf
     Leaf::Bad(Refusal::Code, 0)
 }
 
-fn scan_choice(bs: &[u8]) -> Leaf
+// An option: its byte, and its index where it has one.
+fn choose(k: u8, bs: &[u8]) -> Leaf
     requires { ⌜ length (now bs) ≤ inputBytes ⌝ }
-    ensures { λ r. ⌜ r ≡ scanChoice (now (bs .entry)) ⌝ }
+    ensures { λ r. ⌜ r ≡ cond (indexed k) (past 1 (scanIndex 2 (drop 1 (now (bs .entry))))) (Leaf.Fine 1 2) ⌝ }
+{
+    if is_indexed(k as u32) {
+        return index_behind(2, 1, bs);
+    }
+    Leaf::Fine(1, 2)
+}
+
+fn scan_choice(grade: u32, bs: &[u8]) -> Leaf
+    requires { ⌜ length (now bs) ≤ inputBytes ⌝ }
+    ensures { λ r. ⌜ r ≡ scanChoice grade (now (bs .entry)) ⌝ }
 {
     if bs.len() <= 0 {
         return cut_short(bs);
     }
     let k = byte_at(bs, 0);
     if k < 10 {
-        if is_indexed(k as u32) {
-            return index_behind(2, 1, bs);
-        }
-        return Leaf::Fine(1, 2);
+        return asked_at(grade, grade_of(Site::CanonOption, k), 0, choose(k, bs));
     }
     Leaf::Bad(Refusal::Code, 0)
 }
@@ -305,7 +317,12 @@ fn head_scan(grade: u32, bs: &[u8]) -> Leaf
         return string_at(bs, 1, 0);
     }
     if b == 0x02 {
-        return asked_at(grade, 3, 0, and_count(string_at(bs, 1, 0), bs));
+        return asked_at(
+            grade,
+            grade_of(Site::NameLead, 0x02),
+            0,
+            and_count(string_at(bs, 1, 0), bs),
+        );
     }
     Leaf::Bad(Refusal::Code, 0)
 }
@@ -527,11 +544,11 @@ pub fn scan_field(f: Field, lead: u32, grade: u32, bs: &[u8]) -> Leaf
         Field::Result => scan_result(grade, bs),
         Field::Name => scan_name(bs),
         Field::Index => scan_index(1, bs),
-        Field::Async => scan_either(grade, 2, 0x40, 0x43, bs),
+        Field::Async => scan_either(grade, grade_of(Site::TypeLead, 0x43), 0x40, 0x43, bs),
         Field::Flag => scan_either(grade, 1, 0x00, 0x01, bs),
         Field::Rep => scan_either(grade, 1, 0x7f, 0x7e, bs),
         Field::OptionalIndex => scan_optional_index(bs),
-        Field::Choice => scan_choice(bs),
+        Field::Choice => scan_choice(grade, bs),
         Field::ExternName => scan_extern(grade, bs),
         Field::Reference => scan_reference(grade, bs),
         Field::Argument => scan_argument(bs),

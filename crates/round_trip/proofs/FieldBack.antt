@@ -22,6 +22,8 @@ use Rattle.writing.specs.Binary.{name, primvaltype, valtype, optional, resultli
 use Rattle.reading.specs.Fill.{index, primitive, fillValue, fillOptional, fillReference, fill, fillSortIndex}
 use Rattle.writing.specs.Judge.{below, value, optionalValue, optionalIndex, choice, reference, flaw}
 use Rattle.round_trip.specs.Mark.{Mark, Clear, At, primitiveGrade, valueMark, mark}
+use Rattle.fields.specs.Grades.{gradeOf}
+use Rattle.fields.specs.declared.Site.the-variants.{CanonOption}
 use Rattle.reading.specs.Scan.{byte, past, numbered, scanIndex, scanPrimitive, scanValue, scanOptional, thenZero, scanResult, scanChoice, scanBound, scanModule, three, scanReference, scanEither, scanOptionalIndex, scan, scanArgument, scanCoreSortIndex, scanSortIndex}
 use Rattle.fields.specs.View.{Name, view, said}
 use Rattle.round_trip.proofs.Back.{Back, answer}
@@ -300,10 +302,13 @@ choice-right ws fw e = go (ltb (word ws 0) 10) (indexed (word ws 0)) (eqb (word 
     go true false false ha hb hc e = impossible cc
     go false b c ha hb hc e = impossible cc
 
-choice-scans : {k x : ℕ} → Chosen k x → (rest : List ℕ) → scanChoice (canonopt k x ++ rest) ≡ Fine (length (canonopt k x)) 2
+choice-scans : (g : ℕ) {k x : ℕ} → Chosen k x → (rest : List ℕ)
+    → scanChoice g (canonopt k x ++ rest) ≡ answer (cond (ltb g (gradeOf CanonOption k)) (At 0) Clear) (length (canonopt k x)) 2
 unfolding scanChoice canonopt
-choice-scans {k} {x} (with h i s) rest = simp (some-there, lt-ltb k 10 h, i) (past-one x s rest 2)
-choice-scans {k} (bare h i) rest = simp (some-there, lt-ltb k 10 h, i)
+choice-scans g {k} {x} (with h i s) rest =
+    simp (some-there, lt-ltb k 10 h, i)
+    (ap (λ l. cond (ltb g (gradeOf CanonOption k)) (Bad Newer 0) l) (past-one x s rest 2) ∙ asked-answer (ltb g (gradeOf CanonOption k)) 0 _ 2)
+choice-scans g {k} (bare h i) rest = simp (some-there, lt-ltb k 10 h, i) (asked-answer (ltb g (gradeOf CanonOption k)) 0 1 2)
 
 choice-says : {k x : ℕ} → Chosen k x → (rest : List ℕ)
     → byte (canonopt k x ++ rest) 0 ∷ cond (indexed (byte (canonopt k x ++ rest) 0)) (index (drop 1 (canonopt k x ++ rest))) 0 ∷ [] ≡ k ∷ x ∷ []
@@ -501,7 +506,7 @@ module _ (lead g : ℕ) (any : 1 ≤ g) (pool input : List ℕ) where
       as-words (word ws 0 ∷ word ws 1 ∷ []) (present-scans p rest) (present-says p rest) refl (λ more. refl) (λ more. refl)
   field-back field.Choice ws fw e rest b q =
       let c = choice-right ws fw e in
-      as-words (word ws 0 ∷ word ws 1 ∷ []) (choice-scans c rest) (choice-says c rest) refl (λ more. refl) (λ more. refl)
+      as-words (word ws 0 ∷ word ws 1 ∷ []) (choice-scans g c rest) (choice-says c rest) refl (λ more. refl) (λ more. refl)
   field-back field.ExternName ws fw e rest b q = extern-back lead g pool input ws fw (extern-right pool ws e) rest b q
   field-back field.Reference ws fw e rest b q =
       let r = reference-right ws fw e in

@@ -26,7 +26,9 @@ use Rattle.fields.specs.View.{Name, view, said}
 use Rattle.round_trip.proofs.PaddedLaws.{padded-same, padded-by, padded-before}
 use Rattle.round_trip.proofs.ExternOnly.{name-found, name-seen, name-judged, extern-only}
 use Rattle.round_trip.proofs.FieldBack.{Optioned, Bit, off, on}
-use Rattle.round_trip.proofs.GradeOnly.{no-words, one-word, two-words, prime-small, value-words, optional-words, bit-words, present-words, choice-words, reference-words, name-words, asked-clear, prime-clear, value-clear, optional-clear, zero-clear, result-clear, async-clear, reference-clear}
+use Rattle.fields.specs.Grades.{gradeOf}
+use Rattle.fields.specs.declared.Site.the-variants.{CanonOption}
+use Rattle.round_trip.proofs.GradeOnly.{no-words, one-word, two-words, prime-small, value-words, optional-words, bit-words, present-words, choice-words, reference-words, name-words, asked-clear, prime-clear, value-clear, optional-clear, zero-clear, result-clear, async-clear, choice-clear, reference-clear}
 use Rattle.round_trip.proofs.Only.{Only, only-words}
 use Rattle.round_trip.specs.Mark.{Clear, asks, primitiveGrade, valueMark, mark}
 use Rattle.round_trip.proofs.ScanOnly.{there-fine, asked-fine, front, bytes-behind, index-seen, prime-seen, PairSeen, value-seen, optional-seen, result-seen, present-seen, choice-seen, bit-seen, reference-seen, prime-judged, value-judged, optional-judged, present-judged, choice-judged, reference-judged, argument-seen, core-sort-seen, sort-seen}
@@ -146,7 +148,8 @@ module _ (lead g e : ℕ) (input : List ℕ) (fi : Bytes input) (any : 1 ≤ g) 
   field-only field.Choice b t m s h =
       let v = choice-seen g (drop b input) t m (bytes-behind input b fi) s in
       only-words (v .a ∷ v .b ∷ []) (v .fills) refl (v .makes) (v .inside) (λ more. choice-judged more (v .right)) (λ more. v .again) (λ more. refl)
-      (λ more. refl) (choice-words (v .right)) (λ more. refl)
+      (λ more. refl) (choice-words (v .right))
+      (λ more. ap (λ l. asks g (gradeOf CanonOption (word l 0)) 0) (sym (v .fills)) ∙ choice-clear g any (drop b input) t m s)
   field-only field.ExternName b t m s h = extern-only lead g e input b t m few (bytes-behind input b fi) s h
   field-only field.Reference b t m s h =
       let v = reference-seen g (drop b input) t m (bytes-behind input b fi) s in

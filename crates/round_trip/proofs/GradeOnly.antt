@@ -13,7 +13,9 @@ use Rattle.fields.specs.declared.Leaf.{Leaf}
 use Rattle.fields.specs.declared.Leaf.the-variants.{Fine, Bad}
 use Rattle.fields.specs.Words.{word, Words}
 use Rattle.reading.specs.Fill.{valueIn, primitive, fillValue, fillOptional, fillReference}
-use Rattle.reading.specs.Scan.{byte, asked, past, numbered, zeroAt, thenZero, three, scanPrimitive, scanValue, scanOptional, scanResult, scanEither, scanModule, scanBound, scanIndex, scanReference}
+use Rattle.fields.specs.Grades.{gradeOf}
+use Rattle.fields.specs.declared.Site.the-variants.{CanonOption}
+use Rattle.reading.specs.Scan.{byte, chosen, scanChoice, asked, past, numbered, zeroAt, thenZero, three, scanPrimitive, scanValue, scanOptional, scanResult, scanEither, scanModule, scanBound, scanIndex, scanReference}
 use Rattle.round_trip.specs.Mark.{Mark, Clear, At, asks, primitiveGrade, valueMark}
 use Rattle.round_trip.proofs.ExternBack as extern
 use Rattle.round_trip.proofs.ExternBack.{NameRight, Slot}
@@ -163,6 +165,15 @@ module _ (g : ℕ) (any : 1 ≤ g) where
           → cond (eqb (cond (eqb (byte xs 0) 0x40) 0 1) 0) Clear (asks g 2 0) ≡ Clear
       go (first q e) = simp (eq-eqb _ _ q)
       go (second q d e) = simp (ne-eqb _ _ d) (asked-clear g 2 0 (Fine 1 1) t m e 0)
+
+  pub choice-clear : (xs : List ℕ) (t m : ℕ) → scanChoice g xs ≡ Fine t m → asks g (gradeOf CanonOption (byte xs 0)) 0 ≡ Clear
+  unfolding scanChoice
+  choice-clear xs t m e = go (ltb (byte xs 0) 10) (there-fine xs 0 _ t m e .1)
+    where
+      go : (b : Bool) → cond b (asked g (gradeOf CanonOption (byte xs 0)) 0 (chosen xs)) (Bad Code 0) ≡ Fine t m
+          → asks g (gradeOf CanonOption (byte xs 0)) 0 ≡ Clear
+      go true e = asked-clear g (gradeOf CanonOption (byte xs 0)) 0 (chosen xs) t m e 0
+      go false e = impossible cc
 
   three-one : (l : Leaf) (t m : ℕ) → three l ≡ Fine t m → (c : ℕ) × (l ≡ Fine t c)
   three-one (Fine a c) t m e = (c, let q : a ≡ t = cc in (λ i. Fine (q i) c))

@@ -24,6 +24,8 @@ use Rattle.writing.specs.Binary.{primvaltype, valtype, optional, resultlist, de
 use Rattle.fields.specs.Words.{indexed}
 use Rattle.reading.specs.Fill.{index, valueIn, primitive, fillValue, fillOptional, fillReference, fillSortIndex}
 use Rattle.writing.specs.Judge.{below, value, optionalValue, optionalIndex, choice, reference}
+use Rattle.fields.specs.Grades.{gradeOf}
+use Rattle.fields.specs.declared.Site.the-variants.{CanonOption}
 use Rattle.reading.specs.Scan.{byte, cut, there, asked, past, numbered, either, zeroAt, scanIndex, scanPrimitive, scanValue, scanOptional, scanResult, scanChoice, scanBound, scanModule, three, scanReference, scanEither, scanOptionalIndex, scanArgument, scanCoreSortIndex, scanSortIndex}
 use Rattle.round_trip.specs.Padded.{Padded}
 use Rattle.round_trip.proofs.PaddedLaws.{padded-same, padded-by, padded-behind, padded-number}
@@ -299,7 +301,7 @@ module _ (g : ℕ) (xs : List ℕ) (t m : ℕ) (f : Bytes xs) where
             makes = s .makes;
           }
 
-  pub choice-seen : scanChoice xs ≡ Fine t m
+  pub choice-seen : scanChoice g xs ≡ Fine t m
       → PairSeen Chosen canonopt (byte xs 0 ∷ cond (indexed (byte xs 0)) (index (drop 1 xs)) 0 ∷ []) xs t m
   unfolding scanChoice canonopt
   choice-seen e =
@@ -307,9 +309,10 @@ module _ (g : ℕ) (xs : List ℕ) (t m : ℕ) (f : Bytes xs) where
       go (ltb (byte xs 0) 10) (indexed (byte xs 0)) refl refl (p .0) (p .1)
     where
       go : (x y : Bool) → ltb (byte xs 0) 10 ≡ x → indexed (byte xs 0) ≡ y → 0 < length xs
-          → cond x (cond y (past 1 (scanIndex 2 (drop 1 xs))) (Fine 1 2)) (Bad Code 0) ≡ Fine t m
+          → cond x (asked g (gradeOf CanonOption (byte xs 0)) 0 (cond y (past 1 (scanIndex 2 (drop 1 xs))) (Fine 1 2))) (Bad Code 0) ≡ Fine t m
           → PairSeen Chosen canonopt (byte xs 0 ∷ cond y (index (drop 1 xs)) 0 ∷ []) xs t m
-      go true true hx hy h e =
+      go true true hx hy h asks =
+          let e = asked-fine g (gradeOf CanonOption (byte xs 0)) 0 (past 1 (scanIndex 2 (drop 1 xs))) t m asks in
           let p = past-fine 1 (scanIndex 2 (drop 1 xs)) t m e in
           let a = p .0 in
           let s = index-seen (drop 1 xs) 2 a m (bytes-behind xs 1 f) (p .1) in
@@ -324,7 +327,8 @@ module _ (g : ℕ) (xs : List ℕ) (t m : ℕ) (f : Bytes xs) where
             inside = omega (arith, length-drop 1 xs);
             makes = s .makes;
           }
-      go true false hx hy h e =
+      go true false hx hy h asks =
+          let e = asked-fine g (gradeOf CanonOption (byte xs 0)) 0 (Fine 1 2) t m asks in
           let et : 1 ≡ t = cc in
           record {
             a = byte xs 0;

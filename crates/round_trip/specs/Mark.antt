@@ -10,6 +10,9 @@ use Rattle.fields.specs.declared.Field.the-variants as field
 use Rattle.fields.specs.declared.Found.{Found}
 use Rattle.fields.specs.declared.Found.the-variants.{Is, Not}
 use Rattle.fields.specs.declared.Shape.{Shape}
+use Rattle.fields.specs.declared.Site.the-variants.{TypeLead, NameLead, CanonOption}
+use Rattle.fields.specs.declared.Site.the-variants as site
+use Rattle.fields.specs.Grades.{gradeOf}
 use Rattle.fields.specs.Words.{word, wide}
 use Rattle.writing.specs.Binary.{slots, bytes}
 use Rattle.fields.specs.Shape.{plan}
@@ -25,9 +28,9 @@ pub data Mark : Type 0 where
 abbrev pub asks : ℕ → ℕ → ℕ → Mark
 asks g n j = cond (ltb g n) (At j) Clear
 
--- primitive 13 is of grade 2
+-- primitive 13 is the byte 64
 abbrev pub primitiveGrade : ℕ → ℕ
-primitiveGrade p = cond (eqb p 13) 2 1
+primitiveGrade p = cond (eqb p 13) (gradeOf site.Primitive 0x64) 1
 
 abbrev pub valueMark : ℕ → ℕ → ℕ → ℕ → Mark
 valueMark g tag x j = cond (eqb tag 0) (asks g (primitiveGrade x) j) Clear
@@ -42,12 +45,12 @@ mark lead g field.OptionalThenZero ws = valueMark g (word ws 0) (word ws 1) 1
 mark lead g field.Result ws = valueMark g (word ws 0) (word ws 1) 1
 mark lead g field.Name ws = Clear
 mark lead g field.Index ws = Clear
-mark lead g field.Async ws = cond (eqb (word ws 0) 0) Clear (asks g 2 0)
+mark lead g field.Async ws = cond (eqb (word ws 0) 0) Clear (asks g (gradeOf TypeLead 0x43) 0)
 mark lead g field.Flag ws = Clear
 mark lead g field.Rep ws = Clear
 mark lead g field.OptionalIndex ws = Clear
-mark lead g field.Choice ws = Clear
-mark lead g field.ExternName ws = cond (eqb (slots ws) 0) Clear (asks g 3 0)
+mark lead g field.Choice ws = asks g (gradeOf CanonOption (word ws 0)) 0
+mark lead g field.ExternName ws = cond (eqb (slots ws) 0) Clear (asks g (gradeOf NameLead 0x02) 0)
 mark lead g field.Reference ws = cond (eqb (word ws 0) 2) (valueMark g (word ws 1) (word ws 2) 1) Clear
 mark lead g field.Argument ws = Clear
 mark lead g field.CoreSortIndex ws = Clear

@@ -18,6 +18,7 @@ use Rattle.reading.specs.declared.Pair.{Pair}
 use Rattle.items.specs.declared.import.Three.{Three}
 use Rattle.items.specs.declared.import.Slot.{Slot}
 use Rattle.items.specs.declared.import.Extern.{Extern}
+use Rattle.items.specs.ReadExtern.{slotWords, Says}
 
 -- a reference, as a field of three words
 abbrev pub threeIs : ℕ → ℕ → ℕ → ℕ → Three
@@ -40,13 +41,6 @@ indexedIs sort k n = cond (ltb 0 (n .took)) (threeIs (k + n .took) sort (n .valu
 abbrev pub indexedThree : ℕ → ℕ → List ℕ → Three
 indexedThree sort k bs = indexedIs sort k (seen (takeUnsigned (drop k bs)))
 
--- the words of an option, and of an extern name
-abbrev pub slotWords : Slot → List ℕ
-slotWords s = s .present ∷ s .start ∷ s .size ∷ []
-
-abbrev pub externWords : Extern → List ℕ
-externWords e = e .start ∷ e .size ∷ (slotWords (e .implements) ++ (slotWords (e .suffix) ++ slotWords (e .id)))
-
 abbrev pub noSlot : ℕ → ℕ → Slot
 noSlot next due = record { next = next; due = due; present = 0; start = 0; size = 0 }
 
@@ -56,10 +50,6 @@ SlotTold (Fine at due) ws r = (0 < r .next) × (r .next ≡ at) × (r .due ≡ d
 SlotTold (Bad w j) ws r = (r .next ≡ 0) × (r .due ≡ 0)
 
 -- the same of an extern name
-abbrev pub Says : Leaf → List ℕ → Extern → Type 0
-Says (Fine t m) ws r = (0 < r .took) × (r .took ≡ t) × (externWords r ≡ ws)
-Says (Bad w j) ws r = r .took ≡ 0
-
 abbrev pub ExternTold : ℕ → List ℕ → Extern → Type 0
 ExternTold g input r = Says (scanExtern g input) (fillExtern g 0 input) r
 

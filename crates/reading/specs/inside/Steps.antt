@@ -5,6 +5,8 @@ use mathlib.Core.List.{List}
 use lib.Dec.{eqb, ltb, leb}
 use lib.ListN.{drop}
 use Rattle.fields.specs.declared.Field.{Field}
+use Rattle.fields.specs.declared.Site.the-variants.{Primitive}
+use Rattle.fields.specs.Grades.{gradeOf}
 use Rattle.fields.specs.declared.Leaf.{Leaf}
 use Rattle.fields.specs.declared.Leaf.the-variants.{Fine, Bad}
 use Rattle.reading.specs.Fill.{fill}
@@ -17,9 +19,9 @@ use Rattle.reading.specs.Seen.{pairIs, noPair}
 unfoldable pub behindOne : Pair → Pair
 behindOne v = cond (ltb 0 (v .took)) (pairIs (1 + v .took) (v .a) (v .b)) noPair
 
--- a primitive: 7f down to 73, and 64 of grade 2
+-- a primitive: 7f down to 73, and 64, which is of a grade
 unfoldable pub isPrimitive : ℕ → ℕ → Bool
-isPrimitive g b = cond (eqb b 0x64) (leb 2 g) (cond (ltb b 0x73) false (ltb b 0x80))
+isPrimitive g b = cond (eqb b 0x64) (leb (gradeOf Primitive 0x64) g) (cond (ltb b 0x73) false (ltb b 0x80))
 
 -- the fields from `at` on, with `made` words made so far; what they make
 abbrev pub scans : ℕ → List ℕ → List Field → ℕ → ℕ → Leaf

@@ -64,10 +64,14 @@ returns-15 : tie.Need-returns-15
 unfolding byteOfRefusal
 returns-15 c = rw (c .enum-told14 .given .1)
 
+returns-16 : tie.Need-returns-16
+unfolding byteOfRefusal
+returns-16 c = rw (c .enum-told15 .given .1)
+
 pub byte-of-spec : {M : Type 1} → statement M
 byte-of-spec =
     tie.close
     (tie.spec (search needs) (search needs) (search needs) (search needs) (search needs) (search needs) (search needs)
     (search needs) (search needs) (search needs) (search needs) (search needs) (search needs) (search needs)
-    (search needs) (search needs) returns returns-2 returns-3 returns-4 returns-5 returns-6 returns-7 returns-8 returns-9 returns-10
-    returns-11 returns-12 returns-13 returns-14 returns-15)
+    (search needs) (search needs) (search needs) returns returns-2 returns-3 returns-4 returns-5 returns-6 returns-7 returns-8 returns-9 returns-10
+    returns-11 returns-12 returns-13 returns-14 returns-15 returns-16)

@@ -26,17 +26,18 @@ returns-2 c =
 
 and-count-requires : tie.Need-and-count-requires
 and-count-requires c κs =
-    let bs = now (c .before .before .before .before .before .before .args .bs) in
-    (c .before .before .before .before .before .before .pre, rw (c .string-at2 .ensures) (inside (2 ^ 31) (string-near bs 1 0 (omega arith)) (omega arith)))
+    let bs = now (c .before .before .before .before .before .before .before .args .bs) in
+    (c .before .before .before .before .before .before .before .pre, rw (c .string-at2 .ensures) (inside (2 ^ 31) (string-near bs 1 0 (omega arith)) (omega arith)))
 
 returns-3 : tie.Need-returns-3
 unfolding headScan
 returns-3 c =
     c .asked-at .ensures ∙ simp (
-      lt-leb _ _ (c .before .before .before .before .before .before .if1 .left),
-      sym (c .before .before .before .before .before .byte-at .ensures),
-      ne-eqb _ _ (c .before .before .before .before .if2 .left),
-      eq-eqb _ _ (c .before .before .before .if3 .taken),
+      lt-leb _ _ (c .before .before .before .before .before .before .before .if1 .left),
+      sym (c .before .before .before .before .before .before .byte-at .ensures),
+      ne-eqb _ _ (c .before .before .before .before .before .if2 .left),
+      eq-eqb _ _ (c .before .before .before .before .if3 .taken),
+      sym (c .before .before .before .grade-of .ensures),
       sym (c .before .before .string-at2 .ensures),
       sym (c .before .and-count .ensures),
     )
@@ -55,4 +56,4 @@ pub head-scan-spec : {M : Type 1} → statement M
 head-scan-spec =
     tie.close
     (tie.spec (λ c κs. search needs) returns (λ c κs. search needs) (λ c κs. search needs) returns-2
-    (λ c κs. search needs) and-count-requires (λ c κs. search needs) returns-3 returns-4)
+    (λ c κs. search needs) (λ c κs. search needs) and-count-requires (λ c κs. search needs) returns-3 returns-4)

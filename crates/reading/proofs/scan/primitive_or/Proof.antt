@@ -1,5 +1,5 @@
 -- `reading::scan::primitive_or` meets its contract: the tests on the byte are those of `scanPrimitive`.
-use mathlib.Core.Path.{_∙_}
+use mathlib.Core.Path.{sym, _∙_}
 use borrow.Author.Tests.{eq-eqb, ne-eqb, lt-ltb, le-ltb}
 use Rattle.reading.specs.Scan.{scanPrimitive}
 use borrow.Author.Needs.{needs}
@@ -8,7 +8,7 @@ use Rattle.reading.proofs.scan.primitive_or.Tie as tie
 
 returns : tie.Need-returns
 unfolding scanPrimitive
-returns c = c .asked-at .ensures ∙ simp (eq-eqb _ _ (c .before .if1 .taken))
+returns c = c .asked-at .ensures ∙ simp (eq-eqb _ _ (c .before .before .if1 .taken), sym (c .before .grade-of .ensures))
 
 returns-2 : tie.Need-returns-2
 unfolding scanPrimitive
@@ -23,4 +23,4 @@ unfolding scanPrimitive
 returns-4 c = simp (ne-eqb _ _ (c .before .before .if1 .left), le-ltb _ _ (c .before .if2 .left), le-ltb _ _ (c .if3 .left))
 
 pub primitive-or-spec : {M : Type 1} → statement M
-primitive-or-spec = tie.close (tie.spec (λ c κs. search needs) returns returns-2 returns-3 returns-4)
+primitive-or-spec = tie.close (tie.spec (λ c κs. search needs) (λ c κs. search needs) returns returns-2 returns-3 returns-4)

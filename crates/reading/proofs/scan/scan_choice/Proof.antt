@@ -13,31 +13,20 @@ returns c = c .cut-short .ensures ∙ simp (le-leb _ _ (c .before .if1 .taken))
 returns-2 : tie.Need-returns-2
 unfolding scanChoice
 returns-2 c =
-    c .index-behind .ensures ∙ simp (
+    c .asked-at .ensures ∙ simp (
       lt-leb _ _ (c .before .before .before .before .before .if1 .left),
       sym (c .before .before .before .before .byte-at .ensures),
       lt-ltb _ _ (c .before .before .before .if2 .taken),
-      sym (c .before .before .is-indexed .ensures),
-      c .before .if3 .taken,
+      sym (c .before .before .grade-of .ensures),
+      sym (c .before .choose .ensures),
     )
 
 returns-3 : tie.Need-returns-3
 unfolding scanChoice
-returns-3 c =
-    simp (
-      lt-leb _ _ (c .before .before .before .before .if1 .left),
-      sym (c .before .before .before .byte-at .ensures),
-      lt-ltb _ _ (c .before .before .if2 .taken),
-      sym (c .before .is-indexed .ensures),
-      c .if3 .left,
-    )
-
-returns-4 : tie.Need-returns-4
-unfolding scanChoice
-returns-4 c = simp (lt-leb _ _ (c .before .before .if1 .left), sym (c .before .byte-at .ensures), le-ltb _ _ (c .if2 .left))
+returns-3 c = simp (lt-leb _ _ (c .before .before .if1 .left), sym (c .before .byte-at .ensures), le-ltb _ _ (c .if2 .left))
 
 pub scan-choice-spec : {M : Type 1} → statement M
 scan-choice-spec =
     tie.close
-    (tie.spec (λ c κs. search needs) returns (λ c κs. search needs) (search needs) (λ c κs. search needs)
-    (λ c κs. search needs) returns-2 returns-3 returns-4)
+    (tie.spec (λ c κs. search needs) returns (λ c κs. search needs) (λ c κs. search needs) (λ c κs. search needs)
+    (λ c κs. search needs) returns-2 returns-3)

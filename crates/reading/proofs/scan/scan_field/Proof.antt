@@ -1,5 +1,5 @@
 -- `reading::scan::scan_field` meets its contract: an arm's fact is the field, whose `scan` is what the arm's call ensures.
-use mathlib.Core.Path.{_∙_}
+use mathlib.Core.Path.{sym, _∙_}
 use Rattle.reading.specs.Scan.{scan}
 use borrow.Author.Needs.{needs}
 use Rattle.reading.proofs.scan.scan_field.Statement.{statement}
@@ -43,7 +43,7 @@ returns-9 c = c .scan-index .ensures ∙ simp (c .before .enum-told8 .given .1)
 
 returns-10 : tie.Need-returns-10
 unfolding scan
-returns-10 c = c .scan-either .ensures ∙ simp (c .before .enum-told9 .given .1)
+returns-10 c = c .scan-either .ensures ∙ simp (c .before .before .enum-told9 .given .1, sym (c .before .grade-of .ensures))
 
 returns-11 : tie.Need-returns-11
 unfolding scan
@@ -87,7 +87,9 @@ scan-field-spec =
     (tie.spec (search needs) (search needs) (λ c κs. search needs) (search needs) (λ c κs. search needs)
     (search needs) (λ c κs. search needs) (search needs) (λ c κs. search needs) (search needs) (λ c κs. search needs)
     (search needs) (λ c κs. search needs) (search needs) (λ c κs. search needs) (search needs) (λ c κs. search needs)
-    (search needs) (λ c κs. search needs) (search needs) (λ c κs. search needs) (search needs) (λ c κs. search needs)
-    (search needs) (λ c κs. search needs) (search needs) (λ c κs. search needs) (search needs) (λ c κs. search needs)
-    (search needs) (λ c κs. search needs) (search needs) (λ c κs. search needs) (search needs) (λ c κs. search needs) (search needs) (λ c κs. search needs) returns returns-2 returns-3 returns-4 returns-5 returns-6 returns-7
-    returns-8 returns-9 returns-10 returns-11 returns-12 returns-13 returns-14 returns-15 returns-16 returns-17 returns-18 returns-19)
+    (search needs) (λ c κs. search needs) (λ c κs. search needs) (search needs) (λ c κs. search needs) (search needs)
+    (λ c κs. search needs) (search needs) (λ c κs. search needs) (search needs) (λ c κs. search needs) (search needs)
+    (λ c κs. search needs) (search needs) (λ c κs. search needs) (search needs) (λ c κs. search needs) (search needs)
+    (λ c κs. search needs) (search needs) (λ c κs. search needs) returns returns-2 returns-3 returns-4 returns-5
+    returns-6 returns-7 returns-8 returns-9 returns-10 returns-11 returns-12 returns-13 returns-14 returns-15
+    returns-16 returns-17 returns-18 returns-19)

@@ -1,0 +1,5 @@
+pub mod BeginLaws
+pub mod CallLaws
+pub mod CountLaws
+pub mod OptionLaws
+pub mod ShortLaws

@@ -1,0 +1,2 @@
+pub mod ReadCanonical
+pub mod inside

@@ -1,0 +1,2 @@
+pub mod ReadInstance
+pub mod inside

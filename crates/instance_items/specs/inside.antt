@@ -1,0 +1,2 @@
+pub mod Extern
+pub mod Group
