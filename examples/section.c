@@ -1,6 +1,6 @@
 /* Builds a type section by rows and by steps, and prints it.
  *
- *   rt staticlib cabi
+ *   tools/staticlib
  *   gcc -Iinclude examples/section.c target/staticlib/libcabi.a -o target/section && target/section
  */
 #include <inttypes.h>

@@ -3,7 +3,7 @@
 # Leaves the programs in $programs, and exports TBAUNARITH_LIB and, where a wasm-tools was found, TBAUNARITH_WASM_TOOLS.
 #   TBAUNARITH_ORACLE  folder whose `build` and `peers` get the crates where cargo reaches no registry
 #                      (default: shared/oracle beside the repository)
-#   TBAUNARITH_LIB     folder of a libcabi.a to take as it is (default: `rt staticlib cabi` makes one)
+#   TBAUNARITH_LIB     folder of a libcabi.a to take as it is (default: tools/staticlib makes one)
 set -euo pipefail
 harness=$(cd "$(dirname "${BASH_SOURCE[0]}")" && pwd)
 repository=$(dirname "$harness")
@@ -25,11 +25,11 @@ build_library() {
     echo "library: the one in TBAUNARITH_LIB, as it is"
   else
     TBAUNARITH_LIB=$(dirname "$library")
-    if [ -f "$library" ] && [ -z "$(find "$repository/crates" "$repository/crates.txt" -newer "$library" -print -quit)" ]; then
-      echo "library: as rt staticlib cabi made it; no crate is newer"
+    if [ -f "$library" ] && [ -z "$(find "$repository/crates" "$repository/crates.txt" -name out -prune -o -newer "$library" -type f -print -quit)" ]; then
+      echo "library: as tools/staticlib made it; no crate is newer"
     else
-      echo "library: rt staticlib cabi"
-      (cd "$repository" && quietly staticlib rt staticlib cabi)
+      echo "library: tools/staticlib"
+      (cd "$repository" && quietly staticlib tools/staticlib)
     fi
   fi
   TBAUNARITH_LIB=$(cd "$TBAUNARITH_LIB" && pwd)

@@ -1,7 +1,7 @@
 /* The C interface of the library: sections, steps, sheets and readings of WebAssembly component types, imports,
  * canonicals and instances.
  *
- * Build the library with `rt staticlib cabi`, which writes target/staticlib/libcabi.a, and link it.
+ * Build the library with `tools/staticlib`, which writes target/staticlib/libcabi.a, and link it.
  * Every call takes every input and returns. A refusal changes no buffer and no state.
  * What a call may write (state, body, out, row) must not overlap anything else that is passed to it. */
 #ifndef TBAUNARITH_H

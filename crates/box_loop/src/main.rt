@@ -1,4 +1,6 @@
 // The box's loop in small: one section's state is kept in a local and lent to each step, and the same steps go by value beside it.
+#![tactic(auto)]
+
 ghost use Rattle.std.specs.Prelude.{◌≡◌};
 ghost use Rattle.fields.specs.Answers.{left};
 ghost use Rattle.box_loop.specs.Script.{scripted, closed};
@@ -20,142 +22,172 @@ const ABANDON: u32 = 4;
 
 const FINISH: u32 = 5;
 
-fn say_step(step: u32) -> usize {
+fn say_step(rt: &HostRuntime, step: u32) -> usize {
     match step {
-        0 => say(b"row"),
-        1 => say(b"open"),
-        2 => say(b"head"),
-        3 => say(b"result"),
-        4 => say(b"abandon"),
-        _ => say(b"finish"),
+        0 => say(rt, b"row"),
+        1 => say(rt, b"open"),
+        2 => say(rt, b"head"),
+        3 => say(rt, b"result"),
+        4 => say(rt, b"abandon"),
+        _ => say(rt, b"finish"),
     }
 }
 
 // The line of a step: its name, the number and the value of its answer, and the state it leaves.
-fn show(step: u32, answer: Answer, section: Section) {
-    say_step(step);
+fn show(rt: &HostRuntime, step: u32, answer: Answer, section: Section) {
+    say_step(rt, step);
     match answer {
         Answer::Size(size) => {
-            say(b" 0");
-            say_field(b" ", size as u64);
+            say(rt, b" 0");
+            say_field(rt, b" ", size as u64);
         }
         Answer::Refused(why, value) => {
-            say_field(b" ", fields::number_of(why) as u64);
-            say_field(b" ", value as u64);
+            say_field(rt, b" ", fields::number_of(why) as u64);
+            say_field(rt, b" ", value as u64);
         }
     }
-    say_field(b" used ", section.used as u64);
-    say_field(b" count ", section.count as u64);
-    say(b"\n");
+    say_field(rt, b" used ", section.used as u64);
+    say_field(rt, b" count ", section.count as u64);
+    say(rt, b"\n");
 }
 
 // The steps with the state lent: it stands in one local, and each step leaves the next state there. What comes out is what the
 // definitions of the steps by value say.
-fn by_lending(row: &[u32], words: &[u32], pool: &[u8], body: &mut [u8], out: &mut [u8]) -> Answer
+fn by_lending(
+    rt: &HostRuntime,
+    row: &[u32],
+    words: &[u32],
+    pool: &[u8],
+    body: &mut [u8],
+    out: &mut [u8],
+) -> Answer
     ensures { (left result out.new
         ≡ closed (scripted row.now words.now pool.now body.old) out.old)
         × (body.new ≡ (scripted row.now words.now pool.now body.old).body) }
 {
     let mut section = Section::new(7);
-    show(ROW, lent::row(&mut section, row, pool, body), section);
-    show(ROW, lent::row(&mut section, words, pool, body), section);
-    show(OPEN, lent::open(&mut section, body), section);
-    show(OPEN, lent::open(&mut section, body), section);
-    show(RESULT, lent::result(&mut section, 0, 12, body), section);
-    show(HEAD, lent::head(&mut section, words, pool, body), section);
-    show(RESULT, lent::result(&mut section, 0, 12, body), section);
-    show(OPEN, lent::open(&mut section, body), section);
-    show(HEAD, lent::head(&mut section, words, pool, body), section);
-    show(ABANDON, lent::abandon(&mut section, body), section);
+    show(rt, ROW, lent::row(&mut section, row, pool, body), section);
+    show(rt, ROW, lent::row(&mut section, words, pool, body), section);
+    show(rt, OPEN, lent::open(&mut section, body), section);
+    show(rt, OPEN, lent::open(&mut section, body), section);
+    show(rt, RESULT, lent::result(&mut section, 0, 12, body), section);
+    show(
+        rt,
+        HEAD,
+        lent::head(&mut section, words, pool, body),
+        section,
+    );
+    show(rt, RESULT, lent::result(&mut section, 0, 12, body), section);
+    show(rt, OPEN, lent::open(&mut section, body), section);
+    show(
+        rt,
+        HEAD,
+        lent::head(&mut section, words, pool, body),
+        section,
+    );
+    show(rt, ABANDON, lent::abandon(&mut section, body), section);
     let finished = lent::finish(&section, body, out);
-    show(FINISH, finished, section);
+    show(rt, FINISH, finished, section);
     finished
 }
 
 // The line of a step by value, and the state it hands on.
-fn shown(step: u32, turned: Turned) -> Section {
+fn shown(rt: &HostRuntime, step: u32, turned: Turned) -> Section {
     let section = turned.section;
     let answer = turned.answer;
-    show(step, answer, section);
+    show(rt, step, answer, section);
     section
 }
 
 // The same steps by value: the rows,
 fn rows_by_value(
+    rt: &HostRuntime,
     section: Section,
     row: &[u32],
     words: &[u32],
     pool: &[u8],
     body: &mut [u8],
 ) -> Section {
-    let one = shown(ROW, section.row(row, pool, body));
-    shown(ROW, one.row(words, pool, body))
+    let one = shown(rt, ROW, section.row(row, pool, body));
+    shown(rt, ROW, one.row(words, pool, body))
 }
 
 // the function, with an opening and a result out of turn,
-fn open_by_value(section: Section, body: &mut [u8]) -> Section {
-    let one = shown(OPEN, section.open(body));
-    let two = shown(OPEN, one.open(body));
-    shown(RESULT, two.result(0, 12, body))
+fn open_by_value(rt: &HostRuntime, section: Section, body: &mut [u8]) -> Section {
+    let one = shown(rt, OPEN, section.open(body));
+    let two = shown(rt, OPEN, one.open(body));
+    shown(rt, RESULT, two.result(0, 12, body))
 }
 
-fn close_by_value(section: Section, words: &[u32], pool: &[u8], body: &mut [u8]) -> Section {
-    let one = shown(HEAD, section.head(words, pool, body));
-    shown(RESULT, one.result(0, 12, body))
+fn close_by_value(
+    rt: &HostRuntime,
+    section: Section,
+    words: &[u32],
+    pool: &[u8],
+    body: &mut [u8],
+) -> Section {
+    let one = shown(rt, HEAD, section.head(words, pool, body));
+    shown(rt, RESULT, one.result(0, 12, body))
 }
 
 // the function that is abandoned,
-fn abandon_by_value(section: Section, words: &[u32], pool: &[u8], body: &mut [u8]) -> Section {
-    let one = shown(OPEN, section.open(body));
-    let two = shown(HEAD, one.head(words, pool, body));
-    shown(ABANDON, two.abandon(body))
+fn abandon_by_value(
+    rt: &HostRuntime,
+    section: Section,
+    words: &[u32],
+    pool: &[u8],
+    body: &mut [u8],
+) -> Section {
+    let one = shown(rt, OPEN, section.open(body));
+    let two = shown(rt, HEAD, one.head(words, pool, body));
+    shown(rt, ABANDON, two.abandon(body))
 }
 
 // and the end.
-fn finish_by_value(section: Section, body: &[u8], out: &mut [u8]) -> Answer {
+fn finish_by_value(rt: &HostRuntime, section: Section, body: &[u8], out: &mut [u8]) -> Answer {
     let finished = section.finish(body, out);
-    show(FINISH, finished, section);
+    show(rt, FINISH, finished, section);
     finished
 }
 
 // The finished section.
-fn say_finished(answer: Answer, out: &[u8]) {
+fn say_finished(rt: &HostRuntime, answer: Answer, out: &[u8]) {
     match answer {
         Answer::Size(size) => {
-            telling::say_bytes(numbers::part(out, 0, size));
+            telling::say_bytes(rt, numbers::part(out, 0, size));
         }
         Answer::Refused(_, _) => {
-            say(b"refused");
+            say(rt, b"refused");
         }
     }
-    say(b"\n");
+    say(rt, b"\n");
 }
 
-fn say_by_lending(row: &[u32], words: &[u32], pool: &[u8]) {
+fn say_by_lending(rt: &HostRuntime, row: &[u32], words: &[u32], pool: &[u8]) {
     let mut body = [0u8; 64];
     let mut out = [0u8; 64];
-    let finished = by_lending(row, words, pool, &mut body, &mut out);
-    say_finished(finished, &out);
+    let finished = by_lending(rt, row, words, pool, &mut body, &mut out);
+    say_finished(rt, finished, &out);
 }
 
-fn say_by_value(row: &[u32], words: &[u32], pool: &[u8]) {
+fn say_by_value(rt: &HostRuntime, row: &[u32], words: &[u32], pool: &[u8]) {
     let mut body = [0u8; 64];
     let mut out = [0u8; 64];
-    let one = rows_by_value(Section::new(7), row, words, pool, &mut body);
-    let two = open_by_value(one, &mut body);
-    let three = close_by_value(two, words, pool, &mut body);
-    let four = abandon_by_value(three, words, pool, &mut body);
-    let finished = finish_by_value(four, &body, &mut out);
-    say_finished(finished, &out);
+    let one = rows_by_value(rt, Section::new(7), row, words, pool, &mut body);
+    let two = open_by_value(rt, one, &mut body);
+    let three = close_by_value(rt, two, words, pool, &mut body);
+    let four = abandon_by_value(rt, three, words, pool, &mut body);
+    let finished = finish_by_value(rt, four, &body, &mut out);
+    say_finished(rt, finished, &out);
 }
 
 // Both over the same row, words and pool. The row is a record of ab, a string. The words are the head of a function of x, a u32; as a row
 // they are a primitive with words left over.
-fn main() {
+fn main(rt: HostRuntime) {
     let row = [1u32, 1, 0, 2, 0, 12];
     let words = [0u32, 1, 2, 1, 0, 6];
-    say(b"lent\n");
-    say_by_lending(&row, &words, b"abx");
-    say(b"by value\n");
-    say_by_value(&row, &words, b"abx");
+    say(&rt, b"lent\n");
+    say_by_lending(&rt, &row, &words, b"abx");
+    say(&rt, b"by value\n");
+    say_by_value(&rt, &row, &words, b"abx");
 }

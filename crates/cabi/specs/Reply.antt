@@ -1,5 +1,4 @@
 -- What every call replies: document 01's number, the byte of a name after TEXT, and the value that comes with it.
-use Rattle.std.specs.Prelude.{ℕ}
 use Rattle.fields.specs.declared.Answer.{Answer}
 use Rattle.fields.specs.declared.Answer.TheVariants.{Refused}
 use Rattle.fields.specs.declared.Refusal.TheVariants as refusal

@@ -1,4 +1,6 @@
 // The C interface: every call of the library with C calling rules. include/tbaunarith.h declares it.
+#![tactic(auto)]
+
 ghost use Rattle.std.specs.Prelude.{true, ◌≡◌, length};
 ghost use Rattle.reading.specs.inside.Few.{Few};
 ghost use Rattle.items.specs.ReadType.{read_type};
@@ -17,7 +19,7 @@ use sections::{Phase, Section, Turned};
 
 // What every call gives back.
 #[repr(C)]
-#[derive(Drop)]
+#[derive(Clone, Copy)]
 pub struct Reply {
     // Document 01's number: 0 is OK.
     pub number: u32,
@@ -28,7 +30,7 @@ pub struct Reply {
 }
 
 // A state that came as five numbers.
-#[derive(Drop)]
+#[derive(Clone, Copy)]
 pub enum Given {
     Is(Section),
     // No state has these numbers.

@@ -1,6 +1,5 @@
 -- Reading a canonical: its kind is 256 and its first byte.
 use Rattle.std.specs.Prelude.{ℕ, ◌+◌, ◌-◌, cond, List, ◌∷◌, ◌++◌, eqb, length, take, drop}
-use Rattle.fields.specs.declared.Found.TheVariants.{Is}
 use Rattle.fields.specs.declared.Read.TheVariants.{Refused}
 use Rattle.fields.specs.declared.Refusal.TheVariants as refusal
 use Rattle.fields.specs.declared.Site.TheVariants.{CanonLead}

@@ -1,4 +1,6 @@
 // Canonicals at the front of an input, read by straight code of each class; what it does not read is refused by the walk.
+#![tactic(auto)]
+
 mod options;
 mod short;
 

@@ -20,7 +20,7 @@ use numbers::seen_unsigned;
 use reading::{Pair, Tried};
 
 // An index and a count, and the place past them, 0 where one is not right.
-#[derive(Drop)]
+#[derive(Clone, Copy)]
 pub struct Head {
     pub next: usize,
     pub index: u32,

@@ -11,7 +11,7 @@ use numbers::seen_unsigned;
 use reading::{Pair, Tried};
 
 // A field of at most one word.
-#[derive(Drop)]
+#[derive(Clone, Copy)]
 pub enum Short {
     Nothing,
     Index,
@@ -20,7 +20,7 @@ pub enum Short {
 }
 
 // The place past a field, 0 where it is not right, and its word.
-#[derive(Drop)]
+#[derive(Clone, Copy)]
 pub struct Step {
     pub next: usize,
     pub value: u32,

@@ -1,4 +1,6 @@
 // Kinds 256 + lead: the canonical definitions of the component binary document.
+#![tactic(auto)]
+
 mod straight;
 
 ghost use Rattle.std.specs.Prelude.{◌%◌, ◌≡◌, drop};
@@ -13,7 +15,7 @@ ghost use Rattle.canonicals.specs.Write.{shape_of, measured_canonical, write_can
 use fields::{Answer, Field, Found, Refusal, Shape};
 
 // What a canonical other than lift has behind its lead.
-#[derive(Drop)]
+#[derive(Clone, Copy)]
 pub enum Class {
     Nothing,
     // A byte 00.

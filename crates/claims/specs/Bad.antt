@@ -1,7 +1,7 @@
 -- Bad versions of the calls, as document 01 names them ("How far a contract reaches"): each falls, and the contracts can be met.
 use Rattle.std.specs.Prelude.{ℕ, ◌+◌, ◌≤◌, ◌<◌, ◌≡◌, List, get_or}
 use contract.Lifetimes.{Lfts}
-use Rattle.std.specs.Borrow.{Bor}
+use Rattle.std.specs.Borrow.{Bor, MutBor}
 use denote.Triple.Clauses.{Ended}
 use denote.Triple.Entry.{Args, Res}
 use borrow.Fn.World.{w₀}
@@ -49,16 +49,19 @@ Falls T C Bad = (v : Version T) → Bad v → Meets T C v → ⊥
 abbrev pub RefusesAll : (T : Ended) → ((κs : Lifetimes T) → Res T.signature κs → ℕ) → Version T → Type 0
 RefusesAll T number v = (κs : Lifetimes T) (a : Args T.signature κs) → number κs (v κs a).0 ≡ 0 → ⊥
 
--- bytes or words in memory
+-- bytes or words in memory, lent to be read, and lent to be written
 abbrev pub Lent : Type 0
 Lent = Bor (List ℕ)
+
+abbrev pub LentMut : Type 0
+LentMut = MutBor (List ℕ)
 
 -- the writers of types, imports, canonicals and instances have one form: the number, and the buffer that is left
 abbrev pub Writer : Type 0
 Writer = Version call-write-type.ended
 
 module _ (v : Writer) where
-  module _ (κs : Lifetimes call-write-type.ended) (row pool out : Lent) (at : ℕ) where
+  module _ (κs : Lifetimes call-write-type.ended) (row pool : Lent) (out : LentMut) (at : ℕ) where
     abbrev pub number : ℕ
     number = number_of (v κs (row, (pool, (out, (at, tt))))).0
 
@@ -68,17 +71,17 @@ module _ (v : Writer) where
   -- where it says OK of two rows, the buffer is the same
   abbrev pub SameBytes : Type 0
   SameBytes =
-      (κs : Lifetimes call-write-type.ended) (row other pool out : Lent) (at : ℕ)
+      (κs : Lifetimes call-write-type.ended) (row other pool : Lent) (out : LentMut) (at : ℕ)
       → number κs row pool out at ≡ 0 → number κs other pool out at ≡ 0 → buffer κs row pool out at ≡ buffer κs other pool out at
 
   -- where it says OK, the buffer is as it was
   abbrev pub WritesNothing : Type 0
   WritesNothing =
-      (κs : Lifetimes call-write-type.ended) (row pool out : Lent) (at : ℕ) → number κs row pool out at ≡ 0 → buffer κs row pool out at ≡ out.now
+      (κs : Lifetimes call-write-type.ended) (row pool : Lent) (out : LentMut) (at : ℕ) → number κs row pool out at ≡ 0 → buffer κs row pool out at ≡ out.now
 
 -- a row: the number, and the section and the body it leaves
 module _ (v : Version call-row.ended) where
-  module _ (κs : Lifetimes call-row.ended) (s : Section) (row pool body : Lent) where
+  module _ (κs : Lifetimes call-row.ended) (s : Section) (row pool : Lent) (body : LentMut) where
     abbrev pub row_number : ℕ
     row_number = number_of (v κs (s, (row, (pool, (body, tt))))).0.answer
 
@@ -91,7 +94,7 @@ module _ (v : Version call-row.ended) where
   -- behind the first row, where it says OK, the body is as it was
   abbrev pub OnlySaysOk : Type 0
   OnlySaysOk =
-      (κs : Lifetimes call-row.ended) (s : Section) (row pool body : Lent) → 0 < s.count → row_number κs s row pool body ≡ 0
+      (κs : Lifetimes call-row.ended) (s : Section) (row pool : Lent) (body : LentMut) → 0 < s.count → row_number κs s row pool body ≡ 0
       → row_body κs s row pool body ≡ body.now
 
   -- somewhere it says OK, and does not add 1 to the count
@@ -100,7 +103,7 @@ module _ (v : Version call-row.ended) where
     pub s : Section
     pub row : Lent
     pub pool : Lent
-    pub body : Lent
+    pub body : LentMut
     pub says_ok : row_number κs s row pool body ≡ 0
     pub another : (row_section κs s row pool body).count ≡ s.count + 1 → ⊥
 
@@ -108,7 +111,7 @@ module _ (v : Version call-row.ended) where
 pub record OpenMiscounts (v : Version call-open-entry.ended) : Type 0 where
   pub κs : Lifetimes call-open-entry.ended
   pub s : Section
-  pub body : Lent
+  pub body : LentMut
   pub says_ok : number_of (v κs (s, (body, tt))).0.answer ≡ 0
   pub another : (v κs (s, (body, tt))).0.section.count ≡ s.count + 1 → ⊥
 
@@ -117,7 +120,7 @@ pub record FinishMiscounts (v : Version call-finish.ended) : Type 0 where
   pub κs : Lifetimes call-finish.ended
   pub s : Section
   pub body : Lent
-  pub out : Lent
+  pub out : LentMut
   pub few_rows : s.count < 128
   pub few_bytes : s.used < 127
   pub says_ok : number_of (v κs (s, (body, (out, tt)))).0 ≡ 0
@@ -132,59 +135,59 @@ pub record AlwaysNewer (v : Reader) : Type 0 where
   pub g : ℕ
   pub from : 1 ≤ g
   pub to : g ≤ 3
-  pub newer : (κs : Lifetimes call-read-type.ended) (input row : Lent) → number_of_read (v κs (input, (g, (row, tt)))).0 ≡ 14
+  pub newer : (κs : Lifetimes call-read-type.ended) (input : Lent) (row : LentMut) → number_of_read (v κs (input, (g, (row, tt)))).0 ≡ 14
 
 -- ---- each of them falls
 
 pub record BadVersions : Type 1 where
   -- the contracts can be met
-  pub write_type_met : Possible call-write-type.ended (λ M. call-write-type.clauses)
-  pub write_import_met : Possible call-write-import.ended (λ M. call-write-import.clauses)
-  pub write_canonical_met : Possible call-write-canonical.ended (λ M. call-write-canonical.clauses)
-  pub write_core_instance_met : Possible call-write-core-instance.ended (λ M. call-write-core-instance.clauses)
-  pub write_instance_met : Possible call-write-instance.ended (λ M. call-write-instance.clauses)
-  pub read_type_met : Possible call-read-type.ended (λ M. call-read-type.clauses)
-  pub read_import_met : Possible call-read-import.ended (λ M. call-read-import.clauses)
-  pub row_met : Possible call-row.ended (λ M. call-row.clauses)
-  pub open_met : Possible call-open-entry.ended (λ M. call-open-entry.clauses)
-  pub finish_met : Possible call-finish.ended (λ M. call-finish.clauses)
-  pub sheet_met : Possible call-sheet.ended (λ M. call-sheet.clauses)
+  pub write_type_met : Possible call-write-type.ended (λ M 𝓤. call-write-type.clauses)
+  pub write_import_met : Possible call-write-import.ended (λ M 𝓤. call-write-import.clauses)
+  pub write_canonical_met : Possible call-write-canonical.ended (λ M 𝓤. call-write-canonical.clauses)
+  pub write_core_instance_met : Possible call-write-core-instance.ended (λ M 𝓤. call-write-core-instance.clauses)
+  pub write_instance_met : Possible call-write-instance.ended (λ M 𝓤. call-write-instance.clauses)
+  pub read_type_met : Possible call-read-type.ended (λ M 𝓤. call-read-type.clauses)
+  pub read_import_met : Possible call-read-import.ended (λ M 𝓤. call-read-import.clauses)
+  pub row_met : Possible call-row.ended (λ M 𝓤. call-row.clauses)
+  pub open_met : Possible call-open-entry.ended (λ M 𝓤. call-open-entry.clauses)
+  pub finish_met : Possible call-finish.ended (λ M 𝓤. call-finish.clauses)
+  pub sheet_met : Possible call-sheet.ended (λ M 𝓤. call-sheet.clauses)
   -- "one that refuses everything"
-  pub write_type_refuses : Falls call-write-type.ended (λ M. call-write-type.clauses) (RefusesAll call-write-type.ended (λ κs r. number_of r))
-  pub write_import_refuses : Falls call-write-import.ended (λ M. call-write-import.clauses)
+  pub write_type_refuses : Falls call-write-type.ended (λ M 𝓤. call-write-type.clauses) (RefusesAll call-write-type.ended (λ κs r. number_of r))
+  pub write_import_refuses : Falls call-write-import.ended (λ M 𝓤. call-write-import.clauses)
       (RefusesAll call-write-import.ended (λ κs r. number_of r))
-  pub write_canonical_refuses : Falls call-write-canonical.ended (λ M. call-write-canonical.clauses)
+  pub write_canonical_refuses : Falls call-write-canonical.ended (λ M 𝓤. call-write-canonical.clauses)
       (RefusesAll call-write-canonical.ended (λ κs r. number_of r))
-  pub write_core_instance_refuses : Falls call-write-core-instance.ended (λ M. call-write-core-instance.clauses)
+  pub write_core_instance_refuses : Falls call-write-core-instance.ended (λ M 𝓤. call-write-core-instance.clauses)
       (RefusesAll call-write-core-instance.ended (λ κs r. number_of r))
-  pub write_instance_refuses : Falls call-write-instance.ended (λ M. call-write-instance.clauses)
+  pub write_instance_refuses : Falls call-write-instance.ended (λ M 𝓤. call-write-instance.clauses)
       (RefusesAll call-write-instance.ended (λ κs r. number_of r))
-  pub read_type_refuses : Falls call-read-type.ended (λ M. call-read-type.clauses) (RefusesAll call-read-type.ended (λ κs r. number_of_read r))
-  pub read_import_refuses : Falls call-read-import.ended (λ M. call-read-import.clauses)
+  pub read_type_refuses : Falls call-read-type.ended (λ M 𝓤. call-read-type.clauses) (RefusesAll call-read-type.ended (λ κs r. number_of_read r))
+  pub read_import_refuses : Falls call-read-import.ended (λ M 𝓤. call-read-import.clauses)
       (RefusesAll call-read-import.ended (λ κs r. number_of_read r))
-  pub row_refuses : Falls call-row.ended (λ M. call-row.clauses) (RefusesAll call-row.ended (λ κs r. number_of r.answer))
-  pub open_refuses : Falls call-open-entry.ended (λ M. call-open-entry.clauses)
+  pub row_refuses : Falls call-row.ended (λ M 𝓤. call-row.clauses) (RefusesAll call-row.ended (λ κs r. number_of r.answer))
+  pub open_refuses : Falls call-open-entry.ended (λ M 𝓤. call-open-entry.clauses)
       (RefusesAll call-open-entry.ended (λ κs r. number_of r.answer))
-  pub finish_refuses : Falls call-finish.ended (λ M. call-finish.clauses) (RefusesAll call-finish.ended (λ κs r. number_of r))
-  pub sheet_refuses : Falls call-sheet.ended (λ M. call-sheet.clauses) (RefusesAll call-sheet.ended (λ κs r. number_of r))
+  pub finish_refuses : Falls call-finish.ended (λ M 𝓤. call-finish.clauses) (RefusesAll call-finish.ended (λ κs r. number_of r))
+  pub sheet_refuses : Falls call-sheet.ended (λ M 𝓤. call-sheet.clauses) (RefusesAll call-sheet.ended (λ κs r. number_of r))
   -- "one that writes the same bytes for all rows"
-  pub write_type_same : Falls call-write-type.ended (λ M. call-write-type.clauses) SameBytes
-  pub write_import_same : Falls call-write-import.ended (λ M. call-write-import.clauses) SameBytes
-  pub write_canonical_same : Falls call-write-canonical.ended (λ M. call-write-canonical.clauses) SameBytes
-  pub write_core_instance_same : Falls call-write-core-instance.ended (λ M. call-write-core-instance.clauses) SameBytes
-  pub write_instance_same : Falls call-write-instance.ended (λ M. call-write-instance.clauses) SameBytes
+  pub write_type_same : Falls call-write-type.ended (λ M 𝓤. call-write-type.clauses) SameBytes
+  pub write_import_same : Falls call-write-import.ended (λ M 𝓤. call-write-import.clauses) SameBytes
+  pub write_canonical_same : Falls call-write-canonical.ended (λ M 𝓤. call-write-canonical.clauses) SameBytes
+  pub write_core_instance_same : Falls call-write-core-instance.ended (λ M 𝓤. call-write-core-instance.clauses) SameBytes
+  pub write_instance_same : Falls call-write-instance.ended (λ M 𝓤. call-write-instance.clauses) SameBytes
   -- "one that writes nothing"
-  pub write_type_nothing : Falls call-write-type.ended (λ M. call-write-type.clauses) WritesNothing
-  pub write_import_nothing : Falls call-write-import.ended (λ M. call-write-import.clauses) WritesNothing
-  pub write_canonical_nothing : Falls call-write-canonical.ended (λ M. call-write-canonical.clauses) WritesNothing
-  pub write_core_instance_nothing : Falls call-write-core-instance.ended (λ M. call-write-core-instance.clauses) WritesNothing
-  pub write_instance_nothing : Falls call-write-instance.ended (λ M. call-write-instance.clauses) WritesNothing
+  pub write_type_nothing : Falls call-write-type.ended (λ M 𝓤. call-write-type.clauses) WritesNothing
+  pub write_import_nothing : Falls call-write-import.ended (λ M 𝓤. call-write-import.clauses) WritesNothing
+  pub write_canonical_nothing : Falls call-write-canonical.ended (λ M 𝓤. call-write-canonical.clauses) WritesNothing
+  pub write_core_instance_nothing : Falls call-write-core-instance.ended (λ M 𝓤. call-write-core-instance.clauses) WritesNothing
+  pub write_instance_nothing : Falls call-write-instance.ended (λ M 𝓤. call-write-instance.clauses) WritesNothing
   -- "a section that adds the first row and then only says OK"
-  pub row_only_says_ok : Falls call-row.ended (λ M. call-row.clauses) OnlySaysOk
+  pub row_only_says_ok : Falls call-row.ended (λ M 𝓤. call-row.clauses) OnlySaysOk
   -- "a made-up count", which is told by "a row adds 1" and by the framed bytes: even once
-  pub row_miscounts : Falls call-row.ended (λ M. call-row.clauses) RowMiscounts
-  pub open_miscounts : Falls call-open-entry.ended (λ M. call-open-entry.clauses) OpenMiscounts
-  pub finish_miscounts : Falls call-finish.ended (λ M. call-finish.clauses) FinishMiscounts
+  pub row_miscounts : Falls call-row.ended (λ M 𝓤. call-row.clauses) RowMiscounts
+  pub open_miscounts : Falls call-open-entry.ended (λ M 𝓤. call-open-entry.clauses) OpenMiscounts
+  pub finish_miscounts : Falls call-finish.ended (λ M 𝓤. call-finish.clauses) FinishMiscounts
   -- "a reader that always says NEWER"
-  pub read_type_newer : Falls call-read-type.ended (λ M. call-read-type.clauses) AlwaysNewer
-  pub read_import_newer : Falls call-read-import.ended (λ M. call-read-import.clauses) AlwaysNewer
+  pub read_type_newer : Falls call-read-type.ended (λ M 𝓤. call-read-type.clauses) AlwaysNewer
+  pub read_import_newer : Falls call-read-import.ended (λ M 𝓤. call-read-import.clauses) AlwaysNewer

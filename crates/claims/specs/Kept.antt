@@ -6,12 +6,10 @@ use Rattle.numbers.specs.Bytes.{store, part_of}
 use Rattle.numbers.specs.Leb.{unsigned, signed}
 use Rattle.numbers.specs.Numbers as numbers
 use Rattle.fields.specs.declared.Answer.{Answer}
-use Rattle.fields.specs.declared.Found.{Found}
 use Rattle.fields.specs.declared.Read.{Read}
 use Rattle.fields.specs.declared.Read.TheVariants as read
 use Rattle.writing.specs.Binary.{valtype, extern_part}
 use Rattle.fields.specs.Answers.{LeftRow, number_of_refusal, number_of, value_of, Left}
-use Rattle.reading.specs.Read.{read_item}
 use Rattle.writing.specs.Write.{write_shape}
 use Rattle.items.specs.ReadType.{read_type}
 use Rattle.types.specs.Write.{write_type, head_shape, result_shape}
@@ -28,14 +26,11 @@ use Rattle.sections.specs.Finish.{finishing}
 use Rattle.sections.specs.Runs.{Step, Row, Open, Head, Result, Abandon, turn}
 use Rattle.sections.specs.Section.{write_family}
 use Rattle.sections.specs.Steps.{Turn, turned, gives}
-use Rattle.sheets.specs.Sheet as sheet
 use Rattle.sheets.specs.Sheet.{sheeted}
-use Rattle.cabi.specs.declared.Given.{Given}
 use Rattle.cabi.specs.declared.Given.TheVariants.{Is}
-use Rattle.cabi.specs.Read as c
 use Rattle.cabi.specs.Read.{of_read}
-use Rattle.cabi.specs.Sheet.{Written, of_sheet}
-use Rattle.cabi.specs.State.{given, start_number, numbers_of, Stepped, step, Finished, finishes}
+use Rattle.cabi.specs.Sheet.{of_sheet}
+use Rattle.cabi.specs.State.{given, start_number, numbers_of, Stepped, step, finishes}
 use Rattle.claims.specs.Valid.{productions, entries, family_in}
 
 -- outside `size` elements from `at` on, `new` is as `old` was

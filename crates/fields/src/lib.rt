@@ -1,4 +1,6 @@
 // The words of the trade: the fields of a row, the shape of a kind, refusals and answers.
+#![tactic(auto)]
+
 mod grades;
 mod refusals;
 mod shapes;
@@ -19,7 +21,7 @@ pub const INPUT_BYTES: usize = 0x4000_0000;
 pub const SHEET_BYTES: usize = 65536;
 
 // One field of a row, with its words and its bytes.
-#[derive(Drop)]
+#[derive(Clone, Copy)]
 pub enum Field {
     // No word and no byte.
     Nothing,
@@ -62,7 +64,7 @@ pub enum Field {
 }
 
 // The fields of a kind in order: lead, zero, first and second; where counted, a number n and n times one and two; then last.
-#[derive(Drop)]
+#[derive(Clone, Copy)]
 pub struct Shape {
     pub lead: Field,
     pub zero: Field,
@@ -75,7 +77,7 @@ pub struct Shape {
 }
 
 // The shape of a kind.
-#[derive(Drop)]
+#[derive(Clone, Copy)]
 pub enum Found {
     Is(Shape),
     // There is no such kind.
@@ -83,14 +85,14 @@ pub enum Found {
 }
 
 // The offset of a byte in a name, in two halves: a refusal with it has room beside its place in two machine words.
-#[derive(Drop)]
+#[derive(Clone, Copy)]
 pub struct Offset {
     pub high: u16,
     pub low: u16,
 }
 
 // Where a byte stands that can mark a form of a grade.
-#[derive(Drop)]
+#[derive(Clone, Copy)]
 pub enum Site {
     // A primitive type.
     Primitive,
@@ -105,7 +107,7 @@ pub enum Site {
 }
 
 // Why something is refused, by document 01's names and in the order of its numbers, from 1 on.
-#[derive(Drop)]
+#[derive(Clone, Copy)]
 pub enum Refusal {
     // A number on the wall is passed, or a state is none.
     Limit,
@@ -142,7 +144,7 @@ pub enum Refusal {
 }
 
 // Whether the words of a field are right.
-#[derive(Drop)]
+#[derive(Clone, Copy)]
 pub enum Flaw {
     // All are.
     Right,
@@ -151,14 +153,14 @@ pub enum Flaw {
 }
 
 // What stands at a place: so much is taken, and so much is made of it; or what is wrong, and where.
-#[derive(Drop)]
+#[derive(Clone, Copy)]
 pub enum Leaf {
     Fine(usize, usize),
     Bad(Refusal, usize),
 }
 
 // What a reading call answers.
-#[derive(Drop)]
+#[derive(Clone, Copy)]
 pub enum Read {
     // So many words of the row, and so many bytes taken.
     Item(usize, usize),
@@ -167,7 +169,7 @@ pub enum Read {
 }
 
 // What a writing call answers.
-#[derive(Drop)]
+#[derive(Clone, Copy)]
 pub enum Answer {
     // So many bytes were added.
     Size(usize),

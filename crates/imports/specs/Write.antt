@@ -3,7 +3,7 @@ use Rattle.std.specs.Prelude.{List, ℕ}
 use Rattle.fields.specs.declared.Answer.{Answer}
 use Rattle.fields.specs.declared.Found.{Found}
 use Rattle.fields.specs.Words.{word}
-use Rattle.writing.specs.Row.{measured_row, write_row, row_bytes}
+use Rattle.writing.specs.Row.{measured_row, write_row}
 use Rattle.fields.specs.Table.{shape_in}
 use Rattle.fields.specs.Answers.{Left}
 use Rattle.imports.specs.Table.{table}

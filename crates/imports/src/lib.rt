@@ -1,4 +1,6 @@
 // Kind 17: the imports of the component binary document.
+#![tactic(auto)]
+
 mod straight;
 
 ghost use Rattle.std.specs.Prelude.{◌<◌, ◌≡◌};

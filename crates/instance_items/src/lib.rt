@@ -1,4 +1,6 @@
 // Core instances and instances at the front of an input, read by straight code of each kind; what it does not read is refused by the walk.
+#![tactic(auto)]
+
 mod counted;
 mod fields_of;
 mod groups;

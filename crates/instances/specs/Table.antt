@@ -1,5 +1,5 @@
 -- Kinds 18 to 21: the core instances and the instances of the component binary document, a production a line.
-use Rattle.core.specs.Prelude.{ℕ, List, [], ◌∷◌, ◌++◌, drop}
+use Rattle.std.specs.Prelude.{ℕ, List, [], ◌∷◌, ◌++◌, drop}
 use Rattle.numbers.specs.Leb.{unsigned}
 use Rattle.fields.specs.declared.Field.TheVariants as field
 use Rattle.fields.specs.Words.{word}

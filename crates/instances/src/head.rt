@@ -1,5 +1,5 @@
 // What stands before a row's elements: a byte, the index of what is instantiated, and the count.
-ghost use Rattle.core.specs.Prelude.{◌+◌, ◌<◌, ◌≤◌, ◌∷◌, length};
+ghost use Rattle.std.specs.Prelude.{◌+◌, ◌<◌, ◌≤◌, ◌∷◌, length};
 ghost use Rattle.numbers.specs.Leb.{unsigned};
 ghost use Rattle.fields.specs.Words.{word};
 ghost use Rattle.writing.specs.inside.Wrote.{Wrote};

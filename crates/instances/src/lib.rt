@@ -1,9 +1,11 @@
 // Kinds 18 to 21: the core instances and the instances of the component binary document.
+#![tactic(auto)]
+
 mod component;
-mod core;
+mod core_rows;
 mod head;
 
-ghost use Rattle.core.specs.Prelude.{◌≡◌};
+ghost use Rattle.std.specs.Prelude.{◌≡◌};
 ghost use Rattle.fields.specs.Answers.{left};
 ghost use Rattle.instances.specs.Write.{core_shape_of, measured_core_instance, write_core_instance, shape_of, measured_instance, write_instance};
 ghost use Rattle.instances.specs.inside.Head.{instantiate_shape, export_items_shape};
@@ -64,7 +66,7 @@ pub fn shape_of(kind: u32) -> Found
 pub fn measure_core(row: &[u32], pool: &[u8]) -> Answer
     ensures { result ≡ measured_core_instance row.now pool.now }
 {
-    let size = core::row_size(row, pool);
+    let size = core_rows::row_size(row, pool);
     if 0 < size {
         return Answer::Size(size);
     }
@@ -78,7 +80,7 @@ pub fn write_core(row: &[u32], pool: &[u8], out: &mut [u8], at: usize) -> Answer
     match measure_core(row, pool) {
         Answer::Size(size) => {
             if writing::fits(size, at, out.len()) {
-                core::put_row(row, pool, out, at);
+                core_rows::put_row(row, pool, out, at);
                 return Answer::Size(size);
             }
             Answer::Refused(Refusal::Room, size)

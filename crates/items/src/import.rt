@@ -15,7 +15,7 @@ use numbers::seen_unsigned;
 use reading::{Pair, Tried, name, value};
 
 // A reference: how many bytes it takes, 0 where it is not right, and its words.
-#[derive(Drop)]
+#[derive(Clone, Copy)]
 pub struct Three {
     pub took: usize,
     pub a: u32,
@@ -24,7 +24,7 @@ pub struct Three {
 }
 
 // An option of an extern name: the place behind it, 0 where it is not right, how many options are still to come, and its words.
-#[derive(Drop)]
+#[derive(Clone, Copy)]
 pub struct Slot {
     pub next: usize,
     pub due: u32,
@@ -34,7 +34,7 @@ pub struct Slot {
 }
 
 // An extern name: how many bytes it takes, 0 where it is not right, its name, and its options implements, suffix and id.
-#[derive(Drop)]
+#[derive(Clone, Copy)]
 pub struct Extern {
     pub took: usize,
     pub start: u32,

@@ -11,7 +11,7 @@ use numbers::seen_unsigned;
 use reading::{Tried, optional, value};
 
 // An item: the bytes it takes, 0 where it is not right, and its words, of which those behind the kind's are a, b, c and d.
-#[derive(Drop)]
+#[derive(Clone, Copy)]
 pub struct Item {
     pub took: usize,
     pub words: usize,

@@ -1,4 +1,6 @@
 // Items at the front of an input: types and imports, read by straight code of each kind; what it does not read is refused by the walk.
+#![tactic(auto)]
+
 mod first;
 mod groups;
 mod import;

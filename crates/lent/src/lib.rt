@@ -1,5 +1,7 @@
 // The steps of a section with its state lent: each is the step by value over the state that stands there, and stores the state that
 // the step hands back. So a refusal leaves the state as it was.
+#![tactic(auto)]
+
 ghost use Rattle.std.specs.Prelude.{◌≡◌};
 ghost use Rattle.fields.specs.Answers.{left};
 ghost use Rattle.sections.specs.Steps.{turned, gives, rowing, opening, heading, resulting, abandoning};

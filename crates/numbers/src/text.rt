@@ -6,7 +6,7 @@ ghost use Rattle.numbers.specs.inside.Windows.{All, Begun, Ended, First, Known, 
 ghost use Rattle.numbers.specs.Text.{◌to◌, spelling_of, text};
 
 // What a name is.
-#[derive(Drop)]
+#[derive(Clone, Copy)]
 pub enum Spelling {
     // Well-formed UTF-8.
     Right,
@@ -15,7 +15,7 @@ pub enum Spelling {
 }
 
 // A byte sequence of a name.
-#[derive(Drop)]
+#[derive(Clone, Copy)]
 enum Sequence {
     // A well-formed one, of so many bytes.
     Whole(usize),

@@ -1,5 +1,5 @@
 -- The words of a field whose bytes were scanned; a name's start is a place of the input, at which the bytes stand.
-use Rattle.std.specs.Prelude.{ℕ, ◌+◌, ◌-◌, Bool, true, false, cond, List, [], ◌∷◌, ◌++◌, eqb, ltb, drop}
+use Rattle.std.specs.Prelude.{ℕ, ◌+◌, ◌-◌, cond, List, [], ◌∷◌, ◌++◌, eqb, ltb, drop}
 use Rattle.numbers.specs.declared.leb.Taken.{Taken}
 use Rattle.numbers.specs.declared.leb.Taken.TheVariants as taken
 use Rattle.numbers.specs.Leb.{take_unsigned, take_signed}

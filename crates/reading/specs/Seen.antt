@@ -20,14 +20,14 @@ abbrev pub one : ℕ → Field → List ℕ → Number
 one g f bs = one_of (scan 1 g f bs) (fill g f 0 bs)
 
 -- a field of two words
-abbrev pub pair_is_lem : ℕ → ℕ → ℕ → Pair
-pair_is_lem t a b = record { took = t; a = a; b = b }
+abbrev pub pair_is : ℕ → ℕ → ℕ → Pair
+pair_is t a b = record { took = t; a = a; b = b }
 
 abbrev pub no_pair : Pair
-no_pair = pair_is_lem 0 0 0
+no_pair = pair_is 0 0 0
 
 unfoldable pub pair_of : Leaf → List ℕ → Pair
-pair_of (Fine t m) ws = pair_is_lem t (word ws 0) (word ws 1)
+pair_of (Fine t m) ws = pair_is t (word ws 0) (word ws 1)
 pair_of (Bad w j) ws = no_pair
 
 abbrev pub pair : ℕ → Field → List ℕ → Pair

@@ -1,5 +1,7 @@
 // Bytes to rows: the walk over an item that finds what is wrong with it, and the steps that the straight code of every kind uses. Each
 // step is lent the input from its place on, and says how many bytes its field takes, 0 where that is not right.
+#![tactic(auto)]
+
 mod item;
 mod scan;
 
@@ -14,7 +16,7 @@ pub use item::item_refusal;
 use numbers::Number;
 
 // A field of two words: how many bytes it takes, 0 where it is not right, and its words.
-#[derive(Drop)]
+#[derive(Clone, Copy)]
 pub struct Pair {
     pub took: usize,
     pub a: u32,
@@ -22,7 +24,7 @@ pub struct Pair {
 }
 
 // What a straight reader comes to.
-#[derive(Drop)]
+#[derive(Clone, Copy)]
 pub enum Tried {
     // The item stands in the row: so many words, and so many bytes taken.
     Item(usize, usize),

@@ -1,5 +1,7 @@
 // A section that is being put together: a state by value over a lent body. Each step takes the state and hands the new one back with
 // its answer; a refusal changes neither state nor body.
+#![tactic(auto)]
+
 ghost use Rattle.std.specs.Prelude.{◌≡◌, ◌<◌, ◌≤◌, length};
 ghost use Rattle.std.proofs.lemmas.List.Edits.{sets};
 ghost use Rattle.fields.specs.Answers.{left};
@@ -11,7 +13,7 @@ ghost use Rattle.sections.specs.Finish.{framed, framing, finishing};
 use fields::{Answer, POOL_BYTES, ROW_WORDS, Refusal};
 
 // Where an open function stands; the number is the place in the body where it starts.
-#[derive(Drop)]
+#[derive(Clone, Copy)]
 pub enum Phase {
     // No function is open.
     Closed,
@@ -21,7 +23,7 @@ pub enum Phase {
     Headed(usize),
 }
 
-#[derive(Drop)]
+#[derive(Clone, Copy)]
 pub struct Section {
     // 2 core instances, 5 instances, 7 types, 8 canonicals, 10 imports.
     pub family: u32,
@@ -33,7 +35,7 @@ pub struct Section {
 }
 
 // What a step hands back.
-#[derive(Drop)]
+#[derive(Clone, Copy)]
 pub struct Turned {
     pub section: Section,
     pub answer: Answer,

@@ -1,4 +1,6 @@
 // A sheet: a pool and rows in one run of bytes, tried whole before a byte is written, and finished as a section.
+#![tactic(auto)]
+
 ghost use Rattle.std.specs.Prelude.{◌≡◌, ◌<◌, ◌≤◌, ◌+◌, ◌*◌, length};
 ghost use Rattle.std.proofs.lemmas.List.Edits.{sets};
 ghost use Rattle.writing.specs.inside.Wrote.{Wrote};
@@ -14,7 +16,7 @@ use fields::{Answer, Leaf, ROW_WORDS, Refusal, SHEET_BYTES};
 use sections::{Phase, Section};
 
 // Where a sheet's rows start.
-#[derive(Drop)]
+#[derive(Clone, Copy)]
 enum Framing {
     At(usize),
     // The version is wrong, there is no row, or a part runs past the end.
@@ -191,7 +193,7 @@ fn section_size(rows: u32, used: usize) -> usize
 }
 
 // What making all rows in a buffer comes to.
-#[derive(Drop)]
+#[derive(Clone, Copy)]
 enum Made {
     // So many rows, and the bytes they take.
     All(usize, usize),

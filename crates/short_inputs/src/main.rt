@@ -22,11 +22,13 @@
 // Bad, unsigned: none, since three bytes are within 32 bits.
 // Bad, signed: a last byte 40..7f. 1 byte: 64. 2 bytes: 64 * 256, and 128 first bytes with 40..7f, 128 * 64: 24,576. 3 bytes: 256
 //   times that, and 128^2 * 64: 7,340,032.
+#![tactic(auto)]
+
 use numbers::{Spelling, Taken};
 use telling::{say, say_field};
 
 // What one number form makes of the inputs of one length.
-#[derive(Drop)]
+#[derive(Clone, Copy)]
 struct Numbers {
     // The number ends with the input.
     whole: u64,
@@ -77,7 +79,7 @@ impl Numbers {
 }
 
 // What the name check makes of the inputs of one length.
-#[derive(Drop)]
+#[derive(Clone, Copy)]
 struct Names {
     // Text.
     text: u64,
@@ -125,13 +127,13 @@ impl Names {
         next
     }
 
-    fn print(self) {
-        say_field(b": text ", self.text);
-        say_field(b"\n  stops at 0: ", self.at_0);
-        say_field(b", at 1: ", self.at_1);
-        say_field(b", at 2: ", self.at_2);
-        say_field(b", at 3: ", self.at_3);
-        say(b"\n");
+    fn print(self, rt: &HostRuntime) {
+        say_field(rt, b": text ", self.text);
+        say_field(rt, b"\n  stops at 0: ", self.at_0);
+        say_field(rt, b", at 1: ", self.at_1);
+        say_field(rt, b", at 2: ", self.at_2);
+        say_field(rt, b", at 3: ", self.at_3);
+        say(rt, b"\n");
     }
 }
 
@@ -149,18 +151,18 @@ fn shortest(n: u32, signed: bool) -> usize {
     }
 }
 
-fn print(form: &[u8], n: Numbers) {
-    say(form);
-    say_field(b" whole ", n.whole);
-    say_field(b" padded ", n.padded);
-    say_field(b" longer ", n.longer);
-    say_field(b" cut ", n.cut);
-    say_field(b" bad ", n.bad);
-    say(b"\n");
+fn print(rt: &HostRuntime, form: &[u8], n: Numbers) {
+    say(rt, form);
+    say_field(rt, b" whole ", n.whole);
+    say_field(rt, b" padded ", n.padded);
+    say_field(rt, b" longer ", n.longer);
+    say_field(rt, b" cut ", n.cut);
+    say_field(rt, b" bad ", n.bad);
+    say(rt, b"\n");
 }
 
 // Every input of `length` bytes, of which there are `total`.
-fn every(length: usize, total: u32) {
+fn every(rt: &HostRuntime, length: usize, total: u32) {
     let mut unsigned = Numbers::none();
     let mut signed = Numbers::none();
     let mut names = Names::none();
@@ -177,15 +179,15 @@ fn every(length: usize, total: u32) {
         names = names.with(input);
         i += 1;
     }
-    say_field(b"inputs of length ", length as u64);
-    names.print();
-    print(b"  unsigned", unsigned);
-    print(b"  signed", signed);
+    say_field(rt, b"inputs of length ", length as u64);
+    names.print(rt);
+    print(rt, b"  unsigned", unsigned);
+    print(rt, b"  signed", signed);
 }
 
-fn main() {
-    every(0, 1);
-    every(1, 256);
-    every(2, 65536);
-    every(3, 16777216);
+fn main(rt: HostRuntime) {
+    every(&rt, 0, 1);
+    every(&rt, 1, 256);
+    every(&rt, 2, 65536);
+    every(&rt, 3, 16777216);
 }

@@ -1,50 +1,48 @@
 // Text, numbers and bytes on standard output.
 ghost use Rattle.std.specs.Prelude.{◌≡◌, ◌-◌, ◌*◌, ◌<◌, ◌≤◌, length};
 
-use libc::STDOUT_FILENO;
-
 const DIGITS: [u8; 16] = *b"0123456789abcdef";
 
-pub fn say(text: &[u8]) -> usize
+pub fn say(rt: &HostRuntime, text: &[u8]) -> usize
     ensures { result ≡ length text.now }
 {
-    io::write_all(STDOUT_FILENO, text);
+    let _ = rt.write_all(text);
     text.len()
 }
 
-pub fn say_line(text: &[u8]) -> usize
+pub fn say_line(rt: &HostRuntime, text: &[u8]) -> usize
     ensures { result ≡ length text.now }
 {
-    say(text);
-    say(b"\n");
+    say(rt, text);
+    say(rt, b"\n");
     text.len()
 }
 
 // A number in decimal.
-pub fn say_number(n: u64) -> u64
+pub fn say_number(rt: &HostRuntime, n: u64) -> u64
     ensures { result ≡ n }
 {
-    io::print_decimal(STDOUT_FILENO, n);
+    let _ = rt.print(n);
     n
 }
 
 // A number behind its name.
-pub fn say_field(name: &[u8], n: u64) -> u64
+pub fn say_field(rt: &HostRuntime, name: &[u8], n: u64) -> u64
     ensures { result ≡ n }
 {
-    say(name);
-    say_number(n)
+    say(rt, name);
+    say_number(rt, n)
 }
 
 // A number with the word for one thing, or for many.
-pub fn say_count(n: u64, one: &[u8], many: &[u8]) -> u64
+pub fn say_count(rt: &HostRuntime, n: u64, one: &[u8], many: &[u8]) -> u64
     ensures { result ≡ n }
 {
-    say_number(n);
+    say_number(rt, n);
     if n == 1 {
-        say(one);
+        say(rt, one);
     } else {
-        say(many);
+        say(rt, many);
     }
     n
 }
@@ -74,23 +72,23 @@ fn spell(bytes: &[u8], from: usize, text: &mut [u8]) -> usize
 }
 
 // The bytes from a place on, as many as one text holds: where they end.
-fn say_some(bytes: &[u8], from: usize) -> usize
+fn say_some(rt: &HostRuntime, bytes: &[u8], from: usize) -> usize
     requires { from < length bytes.now }
     ensures { (from < result) × (result ≤ length bytes.now) }
 {
     let mut text = [0u8; 1024];
     let end = spell(bytes, from, &mut text);
-    say(numbers::part(&text, 0, 2 * (end - from)));
+    say(rt, numbers::part(&text, 0, 2 * (end - from)));
     end
 }
 
 // Bytes in hexadecimal, two digits each.
-pub fn say_bytes(bytes: &[u8]) -> usize
+pub fn say_bytes(rt: &HostRuntime, bytes: &[u8]) -> usize
     ensures { result ≡ length bytes.now }
 {
     let mut from = 0;
     while from < bytes.len() {
-        from = say_some(bytes, from);
+        from = say_some(rt, bytes, from);
     }
     from
 }

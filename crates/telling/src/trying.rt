@@ -44,12 +44,12 @@ pub fn is_kept(old: &[u8], out: &[u8], at: usize, size: usize) -> bool
 }
 
 // Ends the line of a call, and says where it changed what it had to keep.
-pub fn end_line(kept: bool) -> bool
+pub fn end_line(rt: &HostRuntime, kept: bool) -> bool
     ensures { result ≡ kept }
 {
     if !kept {
-        say(b" changed");
+        say(rt, b" changed");
     }
-    say(b"\n");
+    say(rt, b"\n");
     kept
 }

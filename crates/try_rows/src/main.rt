@@ -11,8 +11,9 @@
 // A row's answer is a line, `ok SIZE BYTES` or `refused NUMBER VALUE NAME`, with ` byte B` behind TEXT; it ends in ` changed` where a
 // byte that the answer does not count is not as it was. What is none of these, or passes the program's own buffers, is a line that
 // begins with `?`.
+#![tactic(auto)]
+
 use fields::Answer;
-use libc::STDIN_FILENO;
 use telling::{end_line, is_kept, number_at, say, say_line, starts_with};
 
 // The program's own buffers: a row of 16,384 words and a pool of 65,536 bytes fit, and some more, so that both can be passed.
@@ -23,7 +24,7 @@ const POOL: usize = 65600;
 const ROOM: usize = 16384;
 
 // What the lines so far set.
-#[derive(Drop)]
+#[derive(Clone, Copy)]
 struct Setting {
     // The length of the pool.
     pool: usize,
@@ -33,7 +34,7 @@ struct Setting {
     at: usize,
 }
 
-#[derive(Drop)]
+#[derive(Clone, Copy)]
 enum Command {
     Label,
     Pool,
@@ -46,11 +47,11 @@ enum Command {
 }
 
 // The line of a row that was written into `out`, which was `old`.
-fn say_written(size: usize, old: &[u8], out: &[u8], at: usize) {
-    telling::say_field(b"ok ", size as u64);
-    say(b" ");
-    telling::say_bytes(numbers::part(out, at, size));
-    end_line(is_kept(old, out, at, size));
+fn say_written(rt: &HostRuntime, size: usize, old: &[u8], out: &[u8], at: usize) {
+    telling::say_field(rt, b"ok ", size as u64);
+    say(rt, b" ");
+    telling::say_bytes(rt, numbers::part(out, at, size));
+    end_line(rt, is_kept(old, out, at, size));
 }
 
 // The row given to the writer of its kind.
@@ -69,44 +70,51 @@ fn write(row: &[u32], pool: &[u8], out: &mut [u8], at: usize) -> Answer {
     }
 }
 
-fn try_row(row: &[u32], pool: &[u8], out: &mut [u8], at: usize) {
+fn try_row(rt: &HostRuntime, row: &[u32], pool: &[u8], out: &mut [u8], at: usize) {
     let mut old = [0u8; ROOM];
     telling::fill(&mut old, false);
     telling::fill(out, false);
     match write(row, pool, out, at) {
-        Answer::Size(size) => say_written(size, &old, out, at),
+        Answer::Size(size) => say_written(rt, size, &old, out, at),
         Answer::Refused(why, value) => {
-            telling::say_refusal(why, value);
-            end_line(is_kept(&old, out, 0, 0));
+            telling::say_refusal(rt, why, value);
+            end_line(rt, is_kept(&old, out, 0, 0));
         }
     }
 }
 
 // The row of the first `words` words, with pool, room and place as set.
-fn try_words(row: &[u32], words: usize, pool: &[u8], out: &mut [u8], set: Setting) {
+fn try_words(
+    rt: &HostRuntime,
+    row: &[u32],
+    words: usize,
+    pool: &[u8],
+    out: &mut [u8],
+    set: Setting,
+) {
     let size = set.pool;
     let room = set.room;
     if row.len() < words {
-        say_line(b"? too many words");
+        say_line(rt, b"? too many words");
         return;
     }
     if pool.len() < size {
-        say_line(b"? too long a pool");
+        say_line(rt, b"? too long a pool");
         return;
     }
     if out.len() < room {
-        say_line(b"? too much room");
+        say_line(rt, b"? too much room");
         return;
     }
-    try_row(&row[..words], &pool[..size], &mut out[..room], set.at);
+    try_row(rt, &row[..words], &pool[..size], &mut out[..room], set.at);
 }
 
 // The row of `long`: a kind, and zeros up to a number of words.
-fn try_long(line: &[u8], pool: &[u8], out: &mut [u8], set: Setting) {
+fn try_long(rt: &HostRuntime, line: &[u8], pool: &[u8], out: &mut [u8], set: Setting) {
     let mut row = [0u32; WORDS];
     telling::words_of(line, &mut row);
     row[1] = 0;
-    try_words(&row, number_at(line, 1), pool, out, set);
+    try_words(rt, &row, number_at(line, 1), pool, out, set);
 }
 
 fn command_of(line: &[u8]) -> Command {
@@ -135,11 +143,18 @@ fn command_of(line: &[u8]) -> Command {
 }
 
 // Does what a line says, and answers what is set from there on.
-fn obey(line: &[u8], set: Setting, row: &mut [u32], pool: &mut [u8], out: &mut [u8]) -> Setting {
+fn obey(
+    rt: &HostRuntime,
+    line: &[u8],
+    set: Setting,
+    row: &mut [u32],
+    pool: &mut [u8],
+    out: &mut [u8],
+) -> Setting {
     let mut next = set;
     match command_of(line) {
         Command::Label => {
-            say_line(line);
+            say_line(rt, line);
         }
         Command::Pool => {
             let size = telling::size_after(line, 5);
@@ -158,18 +173,18 @@ fn obey(line: &[u8], set: Setting, row: &mut [u32], pool: &mut [u8], out: &mut [
         }
         Command::Row => {
             let words = telling::words_of(line, row);
-            try_words(row, words, pool, out, set);
+            try_words(rt, row, words, pool, out, set);
         }
-        Command::Long => try_long(line, pool, out, set),
+        Command::Long => try_long(rt, line, pool, out, set),
         Command::Other => {
-            say_line(b"? no such line");
+            say_line(rt, b"? no such line");
         }
     }
     next
 }
 
 // Does what each line of the input says.
-fn run(input: &[u8], row: &mut [u32], pool: &mut [u8], out: &mut [u8]) {
+fn run(rt: &HostRuntime, input: &[u8], row: &mut [u32], pool: &mut [u8], out: &mut [u8]) {
     let mut set = Setting {
         pool: 0,
         room: 0,
@@ -178,20 +193,20 @@ fn run(input: &[u8], row: &mut [u32], pool: &mut [u8], out: &mut [u8]) {
     let mut from = 0;
     while from < input.len() {
         let end = telling::next_of(input, from, b'\n');
-        set = obey(&input[from..end], set, row, pool, out);
+        set = obey(rt, &input[from..end], set, row, pool, out);
         from = end + 1;
     }
 }
 
-fn main() {
-    let mut input = io::large_buffer();
-    let n = io::read_full(STDIN_FILENO, &mut input);
+fn main(rt: HostRuntime) {
+    let mut input = [0u8; 65536];
+    let n = telling::read_full(&rt, &mut input);
     if n == 65536 {
-        say_line(b"? too long an input");
+        say_line(&rt, b"? too long an input");
         return;
     }
     let mut row = [0u32; WORDS];
     let mut pool = [0u8; POOL];
     let mut out = [0u8; ROOM];
-    run(&input[..n], &mut row, &mut pool, &mut out);
+    run(&rt, &input[..n], &mut row, &mut pool, &mut out);
 }

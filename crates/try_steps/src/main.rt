@@ -20,8 +20,9 @@
 // count C phase P start S`; then, if the step was taken, the used part of the body or what was finished; and ` changed` where a
 // refusal did not leave everything as it was, or a step that was taken changed a byte that it does not count. What is none of these,
 // or passes the program's own buffers, is a line that begins with `?`.
+#![tactic(auto)]
+
 use fields::Answer;
-use libc::STDIN_FILENO;
 use sections::{Phase, Section, Turned};
 use telling::{is_kept, number_at, say, say_field, say_line, starts_with, word, word_of};
 
@@ -33,7 +34,7 @@ const POOL: usize = 65600;
 const BODY: usize = 16400;
 
 // What the lines so far set.
-#[derive(Drop)]
+#[derive(Clone, Copy)]
 struct Setting {
     // The length of the pool.
     pool: usize,
@@ -43,7 +44,7 @@ struct Setting {
     section: Section,
 }
 
-#[derive(Drop)]
+#[derive(Clone, Copy)]
 enum Command {
     Label,
     Pool,
@@ -59,7 +60,7 @@ enum Command {
     Other,
 }
 
-#[derive(Drop)]
+#[derive(Clone, Copy)]
 enum Step {
     Row,
     Open,
@@ -85,37 +86,37 @@ fn start_of(phase: Phase) -> usize {
     }
 }
 
-fn say_state(section: Section) {
+fn say_state(rt: &HostRuntime, section: Section) {
     let phase = section.phase;
-    say_field(b" family ", section.family as u64);
-    say_field(b" used ", section.used as u64);
-    say_field(b" count ", section.count as u64);
-    say_field(b" phase ", phase_number(phase));
-    say_field(b" start ", start_of(phase) as u64);
+    say_field(rt, b" family ", section.family as u64);
+    say_field(rt, b" used ", section.used as u64);
+    say_field(rt, b" count ", section.count as u64);
+    say_field(rt, b" phase ", phase_number(phase));
+    say_field(rt, b" start ", start_of(phase) as u64);
 }
 
 // The bytes that a step shows, if there are any.
-fn say_shown(bytes: &[u8]) {
+fn say_shown(rt: &HostRuntime, bytes: &[u8]) {
     if 0 < bytes.len() {
-        say(b" ");
-        telling::say_bytes(bytes);
+        say(rt, b" ");
+        telling::say_bytes(rt, bytes);
     }
 }
 
 // The line of a step: its answer, the state it leaves, and the bytes it shows if it was taken.
-fn say_step(answer: Answer, section: Section, shown: &[u8], kept: bool) {
+fn say_step(rt: &HostRuntime, answer: Answer, section: Section, shown: &[u8], kept: bool) {
     match answer {
         Answer::Size(size) => {
-            say_field(b"ok ", size as u64);
-            say_state(section);
-            say_shown(shown);
+            say_field(rt, b"ok ", size as u64);
+            say_state(rt, section);
+            say_shown(rt, shown);
         }
         Answer::Refused(why, value) => {
-            telling::say_refusal(why, value);
-            say_state(section);
+            telling::say_refusal(rt, why, value);
+            say_state(rt, section);
         }
     }
-    telling::end_line(kept);
+    telling::end_line(rt, kept);
 }
 
 fn is_same(a: Section, b: Section) -> bool {
@@ -164,7 +165,14 @@ fn take(step: Step, section: Section, words: &[u32], pool: &[u8], body: &mut [u8
 }
 
 // Takes a step, prints its line, and answers the state it leaves.
-fn try_step(step: Step, section: Section, words: &[u32], pool: &[u8], body: &mut [u8]) -> Section {
+fn try_step(
+    rt: &HostRuntime,
+    step: Step,
+    section: Section,
+    words: &[u32],
+    pool: &[u8],
+    body: &mut [u8],
+) -> Section {
     let mut old = [0u8; BODY];
     numbers::copy(body, 0, &mut old);
     let turned = take(step, section, words, pool, body);
@@ -172,12 +180,13 @@ fn try_step(step: Step, section: Section, words: &[u32], pool: &[u8], body: &mut
     let answer = turned.answer;
     let kept = is_kept(&old, body, section.used, size_in(answer))
         && is_state_kept(answer, section, next);
-    say_step(answer, next, numbers::part(body, 0, next.used), kept);
+    say_step(rt, answer, next, numbers::part(body, 0, next.used), kept);
     next
 }
 
 // The step with the first n words.
 fn try_words(
+    rt: &HostRuntime,
     step: Step,
     section: Section,
     words: &[u32],
@@ -186,41 +195,62 @@ fn try_words(
     body: &mut [u8],
 ) -> Section {
     if words.len() < n {
-        say_line(b"? too many words");
+        say_line(rt, b"? too many words");
         return section;
     }
-    try_step(step, section, &words[..n], pool, body)
+    try_step(rt, step, section, &words[..n], pool, body)
 }
 
 // The step with the words of a line.
-fn try_given(step: Step, section: Section, line: &[u8], pool: &[u8], body: &mut [u8]) -> Section {
+fn try_given(
+    rt: &HostRuntime,
+    step: Step,
+    section: Section,
+    line: &[u8],
+    pool: &[u8],
+    body: &mut [u8],
+) -> Section {
     let mut words = [0u32; WORDS];
     let n = telling::words_of(line, &mut words);
-    try_words(step, section, &words, n, pool, body)
+    try_words(rt, step, section, &words, n, pool, body)
 }
 
 // A row of n words, all 0 after the kind.
-fn try_long_row(section: Section, kind: usize, n: usize, pool: &[u8], body: &mut [u8]) -> Section {
+fn try_long_row(
+    rt: &HostRuntime,
+    section: Section,
+    kind: usize,
+    n: usize,
+    pool: &[u8],
+    body: &mut [u8],
+) -> Section {
     let mut words = [0u32; WORDS];
     words[0] = word_of(kind);
-    try_words(Step::Row, section, &words, n, pool, body)
+    try_words(rt, Step::Row, section, &words, n, pool, body)
 }
 
 // A head of n words, all 0 but the count, which is a quarter of them.
-fn try_long_head(section: Section, n: usize, pool: &[u8], body: &mut [u8]) -> Section {
+fn try_long_head(
+    rt: &HostRuntime,
+    section: Section,
+    n: usize,
+    pool: &[u8],
+    body: &mut [u8],
+) -> Section {
     let mut words = [0u32; WORDS];
     words[1] = word_of(n / 4);
-    try_words(Step::Head, section, &words, n, pool, body)
+    try_words(rt, Step::Head, section, &words, n, pool, body)
 }
 
 // Finishes into a buffer, and prints the line.
-fn try_out(section: Section, body: &[u8], out: &mut [u8]) {
+fn try_out(rt: &HostRuntime, section: Section, body: &[u8], out: &mut [u8]) {
     let mut old = [0u8; BODY];
     telling::fill(&mut old, false);
     telling::fill(out, false);
     let answer = section.finish(body, out);
     let size = size_in(answer);
     say_step(
+        rt,
         answer,
         section,
         numbers::part(out, 0, size),
@@ -229,18 +259,18 @@ fn try_out(section: Section, body: &[u8], out: &mut [u8]) {
 }
 
 // Finishes into the first `room` bytes of a buffer.
-fn try_room(section: Section, body: &[u8], room: usize, out: &mut [u8]) {
+fn try_room(rt: &HostRuntime, section: Section, body: &[u8], room: usize, out: &mut [u8]) {
     if out.len() < room {
-        say_line(b"? too much room");
+        say_line(rt, b"? too much room");
         return;
     }
-    try_out(section, body, &mut out[..room]);
+    try_out(rt, section, body, &mut out[..room]);
 }
 
 // Finishes into a buffer of as many bytes as a line says.
-fn try_finish(section: Section, line: &[u8], body: &[u8]) {
+fn try_finish(rt: &HostRuntime, section: Section, line: &[u8], body: &[u8]) {
     let mut out = [0u8; BODY];
-    try_room(section, body, number_at(line, 0), &mut out);
+    try_room(rt, section, body, number_at(line, 0), &mut out);
 }
 
 fn phase_of(phase: usize, start: usize) -> Phase {
@@ -316,6 +346,7 @@ fn command_of(line: &[u8]) -> Command {
 
 // Takes the step that a line names, beside that pool and over that body, and answers the state it leaves.
 fn act_on(
+    rt: &HostRuntime,
     command: Command,
     line: &[u8],
     section: Section,
@@ -324,43 +355,50 @@ fn act_on(
 ) -> Section {
     let first = number_at(line, 0);
     match command {
-        Command::Take(step) => try_given(step, section, line, pool, body),
-        Command::Long => try_long_row(section, first, number_at(line, 1), pool, body),
-        Command::LongHead => try_long_head(section, first, pool, body),
+        Command::Take(step) => try_given(rt, step, section, line, pool, body),
+        Command::Long => try_long_row(rt, section, first, number_at(line, 1), pool, body),
+        Command::LongHead => try_long_head(rt, section, first, pool, body),
         Command::Finish => {
-            try_finish(section, line, body);
+            try_finish(rt, section, line, body);
             section
         }
         _ => {
-            say_line(b"? no such line");
+            say_line(rt, b"? no such line");
             section
         }
     }
 }
 
 // The same with pool, body and state as set.
-fn act(command: Command, line: &[u8], set: Setting, pool: &[u8], body: &mut [u8]) -> Section {
+fn act(
+    rt: &HostRuntime,
+    command: Command,
+    line: &[u8],
+    set: Setting,
+    pool: &[u8],
+    body: &mut [u8],
+) -> Section {
     let section = set.section;
     let size = set.pool;
     let room = set.body;
     if pool.len() < size {
-        say_line(b"? too long a pool");
+        say_line(rt, b"? too long a pool");
         return section;
     }
     if body.len() < room {
-        say_line(b"? too long a body");
+        say_line(rt, b"? too long a body");
         return section;
     }
-    act_on(command, line, section, &pool[..size], &mut body[..room])
+    act_on(rt, command, line, section, &pool[..size], &mut body[..room])
 }
 
 // Does what a line says, and answers what is set from there on.
-fn obey(line: &[u8], set: Setting, pool: &mut [u8], body: &mut [u8]) -> Setting {
+fn obey(rt: &HostRuntime, line: &[u8], set: Setting, pool: &mut [u8], body: &mut [u8]) -> Setting {
     let command = command_of(line);
     let mut next = set;
     match command {
         Command::Label => {
-            say_line(line);
+            say_line(rt, line);
         }
         Command::Pool => {
             let size = telling::size_after(line, 5);
@@ -385,14 +423,14 @@ fn obey(line: &[u8], set: Setting, pool: &mut [u8], body: &mut [u8]) -> Setting 
             next.section = Section::new(word_of(number_at(line, 0)));
         }
         _ => {
-            next.section = act(command, line, set, pool, body);
+            next.section = act(rt, command, line, set, pool, body);
         }
     }
     next
 }
 
 // Does what each line of the input says.
-fn run(input: &[u8], pool: &mut [u8], body: &mut [u8]) {
+fn run(rt: &HostRuntime, input: &[u8], pool: &mut [u8], body: &mut [u8]) {
     let mut set = Setting {
         pool: 0,
         body: 0,
@@ -401,19 +439,19 @@ fn run(input: &[u8], pool: &mut [u8], body: &mut [u8]) {
     let mut from = 0;
     while from < input.len() {
         let end = telling::next_of(input, from, b'\n');
-        set = obey(&input[from..end], set, pool, body);
+        set = obey(rt, &input[from..end], set, pool, body);
         from = end + 1;
     }
 }
 
-fn main() {
-    let mut input = io::large_buffer();
-    let n = io::read_full(STDIN_FILENO, &mut input);
+fn main(rt: HostRuntime) {
+    let mut input = [0u8; 65536];
+    let n = telling::read_full(&rt, &mut input);
     if n == 65536 {
-        say_line(b"? too long an input");
+        say_line(&rt, b"? too long an input");
         return;
     }
     let mut pool = [0u8; POOL];
     let mut body = [0u8; BODY];
-    run(&input[..n], &mut pool, &mut body);
+    run(&rt, &input[..n], &mut pool, &mut body);
 }

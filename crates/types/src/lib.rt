@@ -1,4 +1,6 @@
 // Kinds 0 to 16: the defined, function and resource types of the component binary document.
+#![tactic(auto)]
+
 mod counted;
 mod function;
 mod optional;

@@ -6,7 +6,7 @@ ghost use Rattle.fields.specs.Shape.{repeated};
 ghost use Rattle.fields.specs.Answers.{left};
 ghost use Rattle.writing.specs.Write.{measured, write_shape};
 ghost use Rattle.types.specs.Write.{head_shape, result_shape};
-ghost use Rattle.types.specs.inside.Function.{head_bytes_lem};
+ghost use Rattle.types.specs.inside.Function.{head_bytes};
 ghost use Rattle.writing.specs.inside.Rows.{Rights};
 
 use crate::counted::{fields_size, put_fields};
@@ -56,8 +56,8 @@ fn head_size(words: &[u32], pool: &[u8]) -> usize
 fn put_head(words: &[u32], pool: &[u8], out: &mut [u8], at: usize)
     requires words_len { length words.now ≡ 2 + word words.now 1 * 4 }
     requires rights { Rights pool.now (repeated (word words.now 1) (Field.Name ∷ Field.Value ∷ [])) (drop 2 words.now) }
-    requires words_in_bounds { at + length (head_bytes_lem pool.now words.now) ≤ length out.old }
-    ensures { out.new ≡ sets out.old at (head_bytes_lem pool.now words.now) }
+    requires words_in_bounds { at + length (head_bytes pool.now words.now) ≤ length out.old }
+    ensures { out.new ≡ sets out.old at (head_bytes pool.now words.now) }
 {
     out[at] = async_byte(words[0]);
     let n = words[1] as usize;

@@ -10,6 +10,8 @@
 // A section's answer is a line for the section and one for each entry, up to the first fault, which is a line
 // `refused NUMBER NAME at PLACE: MEANING`, after TEXT with ` byte B` behind the place of the name. Places count from the section's
 // first byte, and a name's bytes from its own.
+#![tactic(auto)]
+
 mod entry;
 mod parts;
 mod print;
@@ -19,11 +21,11 @@ mod section;
 ghost use Rattle.std.specs.Prelude.{◌≡◌, ◌<◌, length};
 
 use fields::ROW_WORDS;
-use libc::STDIN_FILENO;
 use parts::{after, plus};
 use print::say_limit;
 use runs::{Sort, is_all, is_blank, run_end};
 use section::show_section;
+use std::env::{Env, FillError};
 use telling::{say, say_line, starts_with};
 
 const LIMIT: usize = 1048576;
@@ -49,20 +51,33 @@ fn grade_of(text: &[u8]) -> u32 {
 }
 
 // The program's argument as a grade.
-fn asked_grade() -> u32 {
+fn asked_grade(rt: &HostRuntime) -> u32 {
     let mut text = [0u8; 2];
-    let n = os::arg(1, &mut text);
-    grade_of(&text[..n])
+    match rt.arg(1, &mut text) {
+        Ok(n) => grade_of(&text[..n]),
+        Err(_) => 0,
+    }
+}
+
+// Whether the program was started with an argument at that place.
+fn has_argument(rt: &HostRuntime, i: usize) -> bool {
+    let mut text = [0u8; 1];
+    match rt.arg(i, &mut text) {
+        Ok(_) => true,
+        Err(FillError::TooLong) => true,
+        Err(FillError::NotPresent) => false,
+    }
 }
 
 // The grade that the program is started with, 0 where its arguments are not one grade.
-fn first_grade() -> u32 {
-    match os::arg_count() {
-        0 => 3,
-        1 => 3,
-        2 => asked_grade(),
-        _ => 0,
+fn first_grade(rt: &HostRuntime) -> u32 {
+    if !has_argument(rt, 1) {
+        return 3;
     }
+    if has_argument(rt, 2) {
+        return 0;
+    }
+    asked_grade(rt)
 }
 
 // The value of a hexadecimal digit.
@@ -113,67 +128,74 @@ fn digits_of(text: &[u8], bytes: &mut [u8]) -> usize {
     count
 }
 
-fn say_other(line: &[u8]) {
-    say(b"not bytes in hexadecimal: ");
-    say_line(line);
+fn say_other(rt: &HostRuntime, line: &[u8]) {
+    say(rt, b"not bytes in hexadecimal: ");
+    say_line(rt, line);
 }
 
-fn show_digits(line: &[u8], text: &[u8], grade: u32, bytes: &mut [u8], row: &mut [u32]) {
+fn show_digits(
+    rt: &HostRuntime,
+    line: &[u8],
+    text: &[u8],
+    grade: u32,
+    bytes: &mut [u8],
+    row: &mut [u32],
+) {
     if !is_all(text, Sort::Digits) {
-        return say_other(line);
+        return say_other(rt, line);
     }
     let count = digits_of(text, bytes);
     if count % 2 != 0 {
-        return say_other(line);
+        return say_other(rt, line);
     }
     if 0 < count {
-        show_section(numbers::part(bytes, 0, count / 2), grade, row);
+        show_section(rt, numbers::part(bytes, 0, count / 2), grade, row);
     }
 }
 
 // What a line says, shown at a grade, and the grade behind it.
-fn show_line(line: &[u8], grade: u32, bytes: &mut [u8], row: &mut [u32]) -> u32 {
+fn show_line(rt: &HostRuntime, line: &[u8], grade: u32, bytes: &mut [u8], row: &mut [u32]) -> u32 {
     if starts_with(line, b"#") {
-        say_line(line);
+        say_line(rt, line);
         return grade;
     }
     if starts_with(line, b"grade ") {
-        say_line(line);
+        say_line(rt, line);
         return grade_of(after(line, 6));
     }
     if starts_with(line, b"ok ") {
-        show_digits(line, after(line, 3), grade, bytes, row);
+        show_digits(rt, line, after(line, 3), grade, bytes, row);
         return grade;
     }
-    show_digits(line, line, grade, bytes, row);
+    show_digits(rt, line, line, grade, bytes, row);
     grade
 }
 
-fn show_lines(input: &[u8], first: u32, bytes: &mut [u8], row: &mut [u32]) {
+fn show_lines(rt: &HostRuntime, input: &[u8], first: u32, bytes: &mut [u8], row: &mut [u32]) {
     let mut grade = first;
     let mut from = 0;
     while from < input.len() {
         let end = run_end(input, from, Sort::Line);
-        grade = show_line(&input[from..end], grade, bytes, row);
+        grade = show_line(rt, &input[from..end], grade, bytes, row);
         from = end + 1;
     }
 }
 
-fn show(input: &[u8], bytes: &mut [u8], row: &mut [u32]) {
-    let grade = first_grade();
+fn show(rt: &HostRuntime, input: &[u8], bytes: &mut [u8], row: &mut [u32]) {
+    let grade = first_grade(rt);
     if is_all(input, Sort::Text) {
-        return show_lines(input, grade, bytes, row);
+        return show_lines(rt, input, grade, bytes, row);
     }
-    show_section(input, grade, row);
+    show_section(rt, input, grade, row);
 }
 
-fn main() {
+fn main(rt: HostRuntime) {
     let mut input = room();
-    let n = io::read_full(STDIN_FILENO, &mut input);
+    let n = telling::read_full(&rt, &mut input);
     if LIMIT < n {
-        return say_limit(b": the input has more than 1048576 bytes");
+        return say_limit(&rt, b": the input has more than 1048576 bytes");
     }
     let mut bytes = room();
     let mut row = [0u32; ROW_WORDS];
-    show(&input[..n], &mut bytes, &mut row);
+    show(&rt, &input[..n], &mut bytes, &mut row);
 }

@@ -1,7 +1,7 @@
 // Runs of bytes of one sort.
 ghost use Rattle.std.specs.Prelude.{◌≤◌, length};
 
-#[derive(Drop)]
+#[derive(Clone, Copy)]
 pub enum Sort {
     // Printable ASCII, a tab, or a line's end.
     Text,

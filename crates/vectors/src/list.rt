@@ -1,8 +1,6 @@
 // The lists on standard input. Every number has 4 bytes, big-endian.
 ghost use Rattle.std.specs.Prelude.{◌<◌};
 
-use libc::STDIN_FILENO;
-
 // The bytes of a case's numbers.
 pub const HEAD: usize = 40;
 
@@ -14,7 +12,7 @@ pub const TYPES: usize = 1;
 pub const IMPORTS: usize = 2;
 
 // The numbers of a case, in the list's order. A row's words count 4 bytes each.
-#[derive(Drop)]
+#[derive(Clone, Copy)]
 pub struct Case {
     pub sort: usize,
     // The bytes of the input.
@@ -34,7 +32,7 @@ pub struct Case {
 }
 
 // How the input goes on: with a list of so many cases, whose title has so many bytes; not at all; or with no list.
-#[derive(Drop)]
+#[derive(Clone, Copy)]
 pub enum Next {
     List(usize, usize),
     End,
@@ -80,17 +78,17 @@ pub fn case_of(head: &[u8; HEAD]) -> Case {
 }
 
 // Reads so many bytes to the buffer's front, or answers false.
-fn read_to(buffer: &mut [u8], size: usize) -> bool {
+fn read_to(rt: &HostRuntime, buffer: &mut [u8], size: usize) -> bool {
     if buffer.len() < size {
         return false;
     }
-    io::read_full(STDIN_FILENO, &mut buffer[..size]) == size
+    telling::read_full(rt, &mut buffer[..size]) == size
 }
 
 // The next list; its title is read to the buffer's front.
-pub fn next_list(title: &mut [u8]) -> Next {
+pub fn next_list(rt: &HostRuntime, title: &mut [u8]) -> Next {
     let mut head = [0u8; 8];
-    let got = io::read_full(STDIN_FILENO, &mut head);
+    let got = telling::read_full(rt, &mut head);
     if got == 0 {
         return Next::End;
     }
@@ -99,23 +97,28 @@ pub fn next_list(title: &mut [u8]) -> Next {
     }
     let total = number_of(head[0], head[1], head[2], head[3]) as usize;
     let size = number_of(head[4], head[5], head[6], head[7]) as usize;
-    if !read_to(title, size) {
+    if !read_to(rt, title, size) {
         return Next::Broken;
     }
     Next::List(total, size)
 }
 
 // The next case, or false; its input and what is made of it are read into the buffers.
-pub fn next_case(head: &mut [u8; HEAD], input: &mut [u8], made: &mut [u8]) -> bool {
-    if !read_to(head, HEAD) {
+pub fn next_case(
+    rt: &HostRuntime,
+    head: &mut [u8; HEAD],
+    input: &mut [u8],
+    made: &mut [u8],
+) -> bool {
+    if !read_to(rt, head, HEAD) {
         return false;
     }
     let case = case_of(head);
     if IMPORTS < case.sort {
         return false;
     }
-    if !read_to(input, case.input) {
+    if !read_to(rt, input, case.input) {
         return false;
     }
-    read_to(made, case.made)
+    read_to(rt, made, case.made)
 }

@@ -7,6 +7,8 @@
 // what was lent, and all the rest is as it was filled. For a refusal nothing is made, so nothing may change.
 //
 // A list is told by its title and, for each sort of case that it has, how many of them were answered by each of document 01's numbers.
+#![tactic(auto)]
+
 mod lent;
 mod list;
 mod tally;
@@ -24,6 +26,7 @@ const LISTS: usize = 1000000;
 
 // Runs the next case, or answers false.
 fn run_case(
+    rt: &HostRuntime,
     at: usize,
     input: &mut [u8],
     made: &mut [u8],
@@ -33,18 +36,19 @@ fn run_case(
     tally: &mut [u64; tally::SLOTS],
 ) -> bool {
     let mut head = [0u8; list::HEAD];
-    if !list::next_case(&mut head, input, made) {
+    if !list::next_case(rt, &mut head, input, made) {
         return false;
     }
     let case = list::case_of(&head);
     let outcome = trial::try_case(case, input, made, body, out, row);
-    tally::say_difference(at, case, outcome);
+    tally::say_difference(rt, at, case, outcome);
     tally::count(tally, case.sort, outcome);
     true
 }
 
 // Runs every case of a list.
 fn run_cases(
+    rt: &HostRuntime,
     total: usize,
     input: &mut [u8],
     made: &mut [u8],
@@ -55,8 +59,8 @@ fn run_cases(
 ) {
     let mut i = 0;
     while i < total {
-        if !run_case(i, input, made, body, out, row, tally) {
-            return tally::say_broken();
+        if !run_case(rt, i, input, made, body, out, row, tally) {
+            return tally::say_broken(rt);
         }
         i += 1;
     }
@@ -64,6 +68,7 @@ fn run_cases(
 
 // Runs a list whose title stands at the front of the input, and tells how it went.
 fn run_list(
+    rt: &HostRuntime,
     title: usize,
     total: usize,
     input: &mut [u8],
@@ -73,49 +78,57 @@ fn run_list(
     row: &mut [u32],
 ) {
     let mut tally = [0u64; tally::SLOTS];
-    telling::say_line(numbers::part(input, 0, title));
-    run_cases(total, input, made, body, out, row, &mut tally);
-    tally::say_list(&tally);
+    telling::say_line(rt, numbers::part(input, 0, title));
+    run_cases(rt, total, input, made, body, out, row, &mut tally);
+    tally::say_list(rt, &tally);
 }
 
 // Runs the next list, or answers false.
 fn run_next(
+    rt: &HostRuntime,
     input: &mut [u8],
     made: &mut [u8],
     body: &mut [u8],
     out: &mut [u8],
     row: &mut [u32],
 ) -> bool {
-    let next = list::next_list(input);
+    let next = list::next_list(rt, input);
     match next {
         Next::List(total, title) => {
-            run_list(title, total, input, made, body, out, row);
+            run_list(rt, title, total, input, made, body, out, row);
             true
         }
         Next::End => false,
         Next::Broken => {
-            tally::say_broken();
+            tally::say_broken(rt);
             false
         }
     }
 }
 
 // Runs list after list, until the input ends.
-fn run(input: &mut [u8], made: &mut [u8], body: &mut [u8], out: &mut [u8], row: &mut [u32]) {
+fn run(
+    rt: &HostRuntime,
+    input: &mut [u8],
+    made: &mut [u8],
+    body: &mut [u8],
+    out: &mut [u8],
+    row: &mut [u32],
+) {
     let mut i = 0;
     while i < LISTS {
-        if !run_next(input, made, body, out, row) {
+        if !run_next(rt, input, made, body, out, row) {
             return;
         }
         i += 1;
     }
 }
 
-fn main() {
+fn main(rt: HostRuntime) {
     let mut input = [0u8; ROOM];
     let mut made = [0u8; ROOM];
     let mut body = [0u8; ROOM];
     let mut out = [0u8; ROOM];
     let mut row = [0u32; WORDS];
-    run(&mut input, &mut made, &mut body, &mut out, &mut row);
+    run(&rt, &mut input, &mut made, &mut body, &mut out, &mut row);
 }

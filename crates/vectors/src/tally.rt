@@ -19,49 +19,50 @@ const SORTS: usize = 3;
 
 pub const SLOTS: usize = 57;
 
-pub fn say_broken() {
-    say(b"? the list is broken\n");
+pub fn say_broken(rt: &HostRuntime) {
+    say(rt, b"? the list is broken\n");
 }
 
-fn say_sort(sort: usize) -> usize {
+fn say_sort(rt: &HostRuntime, sort: usize) -> usize {
     match sort {
-        0 => say(b" sheets"),
-        1 => say(b" types"),
-        2 => say(b" imports"),
-        _ => say(b" ?"),
+        0 => say(rt, b" sheets"),
+        1 => say(rt, b" types"),
+        2 => say(rt, b" imports"),
+        _ => say(rt, b" ?"),
     }
 }
 
-fn say_answer(text: &[u8], number: usize, value: usize, also: usize) {
-    say_field(text, number as u64);
-    say(b" ");
-    say_name(number);
-    say_field(b" ", value as u64);
+fn say_answer(rt: &HostRuntime, text: &[u8], number: usize, value: usize, also: usize) {
+    say_field(rt, text, number as u64);
+    say(rt, b" ");
+    say_name(rt, number);
+    say_field(rt, b" ", value as u64);
     if 0 < also {
-        say_field(b", also ", also as u64);
+        say_field(rt, b", also ", also as u64);
     }
 }
 
 // A line for a case whose outcome is not right.
-pub fn say_difference(at: usize, case: Case, outcome: Outcome) {
+pub fn say_difference(rt: &HostRuntime, at: usize, case: Case, outcome: Outcome) {
     if outcome.right {
         return;
     }
-    say_field(b"case ", at as u64);
-    say(b",");
-    say_sort(case.sort);
+    say_field(rt, b"case ", at as u64);
+    say(rt, b",");
+    say_sort(rt, case.sort);
     say_answer(
+        rt,
         b", differs: answered ",
         outcome.number,
         outcome.value,
         outcome.also,
     );
     if trial::is_told(case, outcome.number, outcome.value, outcome.also) {
-        say(b", with other bytes\n");
+        say(rt, b", with other bytes\n");
         return;
     }
-    say_answer(b"; the list has ", case.number, case.value, case.also);
-    say(b"\n");
+    say_answer(rt, b"; the list has ", case.number, case.value, case.also);
+    say(rt, b"\n");
 }
 
 // Where a number of a sort is counted.
@@ -100,49 +101,49 @@ pub fn count(tally: &mut [u64; SLOTS], sort: usize, outcome: Outcome) {
 }
 
 // A count behind a text.
-fn say_count(text: &[u8], tally: &[u64; SLOTS], sort: usize, number: usize)
+fn say_count(rt: &HostRuntime, text: &[u8], tally: &[u64; SLOTS], sort: usize, number: usize)
     requires sort_bound { sort < 3 }
     requires number_bound { number < 19 }
 {
     let slot = slot_of(sort, number);
-    say_field(text, tally[slot]);
+    say_field(rt, text, tally[slot]);
 }
 
 // A line for each of document 01's numbers.
-fn say_numbers(tally: &[u64; SLOTS], sort: usize)
+fn say_numbers(rt: &HostRuntime, tally: &[u64; SLOTS], sort: usize)
     requires { sort < 3 }
 {
     let mut i = 0;
     while i < ALL {
-        telling::say_number(i as u64);
-        say(b" ");
-        say_name(i);
-        say_count(b" ", tally, sort, i);
-        say(b"\n");
+        telling::say_number(rt, i as u64);
+        say(rt, b" ");
+        say_name(rt, i);
+        say_count(rt, b" ", tally, sort, i);
+        say(rt, b"\n");
         i += 1;
     }
 }
 
 // How the cases of a sort went, if there were any.
-fn say_tally(tally: &[u64; SLOTS], sort: usize)
+fn say_tally(rt: &HostRuntime, tally: &[u64; SLOTS], sort: usize)
     requires { sort < 3 }
 {
     let all = slot_of(sort, ALL);
     if tally[all] == 0 {
         return;
     }
-    say_count(b"", tally, sort, ALL);
-    say_sort(sort);
-    say_count(b": ", tally, sort, 0);
-    say_count(b" ok, ", tally, sort, REFUSED);
-    say_count(b" refused, ", tally, sort, DIFFER);
-    say(b" differ\n");
-    say_numbers(tally, sort);
+    say_count(rt, b"", tally, sort, ALL);
+    say_sort(rt, sort);
+    say_count(rt, b": ", tally, sort, 0);
+    say_count(rt, b" ok, ", tally, sort, REFUSED);
+    say_count(rt, b" refused, ", tally, sort, DIFFER);
+    say(rt, b" differ\n");
+    say_numbers(rt, tally, sort);
 }
 
 // How the cases of a list went.
-pub fn say_list(tally: &[u64; SLOTS]) {
-    say_tally(tally, 0);
-    say_tally(tally, 1);
-    say_tally(tally, 2);
+pub fn say_list(rt: &HostRuntime, tally: &[u64; SLOTS]) {
+    say_tally(rt, tally, 0);
+    say_tally(rt, tally, 1);
+    say_tally(rt, tally, 2);
 }

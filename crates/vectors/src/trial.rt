@@ -4,7 +4,7 @@ use crate::{lent, list};
 use fields::{Answer, Read, Refusal};
 
 // What was answered, and whether that and all that was lent are as the case says. The number of a case that was not run is 16.
-#[derive(Drop)]
+#[derive(Clone, Copy)]
 pub struct Outcome {
     pub number: usize,
     pub value: usize,

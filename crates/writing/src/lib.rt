@@ -1,4 +1,6 @@
 // Rows to bytes: the walk over a row that finds what is wrong with it, and what the straight code of every kind uses.
+#![tactic(auto)]
+
 mod extern_name;
 mod judge;
 mod row;

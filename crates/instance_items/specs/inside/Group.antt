@@ -10,8 +10,7 @@ use Rattle.fields.specs.declared.Found.TheVariants.{Is, Not}
 use Rattle.fields.specs.declared.Shape.{Shape}
 use Rattle.fields.specs.Table.{many_of}
 use Rattle.reading.specs.declared.Pair.{Pair}
-use Rattle.reading.specs.Scan.{byte}
-use Rattle.reading.specs.Seen.{pair_is_lem, no_pair}
+use Rattle.reading.specs.Seen.{pair_is, no_pair}
 
 -- the fields of a group
 unfoldable pub group_one : ℕ → Field
@@ -46,11 +45,11 @@ Begins kind first = (kind ≡ 18 → first ≡ 0x00) × (kind ≡ 19 → first �
 
 -- a sort and, behind k bytes, an index
 abbrev pub sort_is : ℕ → ℕ → Number → Pair
-sort_is sort k n = cond (ltb 0 n.took) (pair_is_lem (k + n.took) sort n.value) no_pair
+sort_is sort k n = cond (ltb 0 n.took) (pair_is (k + n.took) sort n.value) no_pair
 
 abbrev pub sort_pair : ℕ → ℕ → List ℕ → Pair
 sort_pair sort k bs = sort_is sort k (seen (take_unsigned (drop k bs)))
 
 -- 12 and an index
 abbrev pub argument_is : Number → Pair
-argument_is n = cond (ltb 0 n.took) (pair_is_lem (1 + n.took) n.value 0) no_pair
+argument_is n = cond (ltb 0 n.took) (pair_is (1 + n.took) n.value 0) no_pair

@@ -1,5 +1,5 @@
 -- What straight code says of the fields of an import that it reads once: where each ends, and its words.
-use Rattle.std.specs.Prelude.{cond, ℕ, ◌+◌, ◌<◌, List, [], ◌∷◌, ◌++◌, ◌≡◌, ltb, drop}
+use Rattle.std.specs.Prelude.{cond, ℕ, ◌+◌, ◌<◌, List, ◌∷◌, ◌++◌, ◌≡◌, ltb, drop}
 use Rattle.numbers.specs.declared.leb.Number.{Number}
 use Rattle.numbers.specs.Leb.{take_unsigned}
 use Rattle.numbers.specs.Seen.{seen}
@@ -7,7 +7,7 @@ use Rattle.fields.specs.declared.Field.TheVariants as field
 use Rattle.fields.specs.declared.Leaf.{Leaf}
 use Rattle.fields.specs.declared.Leaf.TheVariants.{Fine, Bad}
 use Rattle.fields.specs.Words.{word}
-use Rattle.reading.specs.Fill.{fill, fill_extern, fill_slot, fill_name}
+use Rattle.reading.specs.Fill.{fill, fill_extern, fill_slot}
 use Rattle.reading.specs.Scan.{scan, scan_extern, slot_scan, end_scan, onward}
 use Rattle.reading.specs.declared.Pair.{Pair}
 use Rattle.items.specs.declared.import.Three.{Three}

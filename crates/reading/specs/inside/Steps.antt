@@ -9,11 +9,11 @@ use Rattle.reading.specs.Fill.{fill}
 use Rattle.fields.specs.inside.Run.{along, makes}
 use Rattle.reading.specs.Scan.{scan}
 use Rattle.reading.specs.declared.Pair.{Pair}
-use Rattle.reading.specs.Seen.{pair_is_lem, no_pair}
+use Rattle.reading.specs.Seen.{pair_is, no_pair}
 
 -- the same behind a byte
 unfoldable pub behind_one : Pair → Pair
-behind_one v = cond (ltb 0 v.took) (pair_is_lem (1 + v.took) v.a v.b) no_pair
+behind_one v = cond (ltb 0 v.took) (pair_is (1 + v.took) v.a v.b) no_pair
 
 -- a primitive: 7f down to 73, and 64, which is of a grade
 unfoldable pub is_primitive : ℕ → ℕ → Bool

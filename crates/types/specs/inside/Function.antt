@@ -20,6 +20,6 @@ function_bytes pool row =
     ++ resultlist (word row (3 + word row 2 * 4)) (word row (4 + word row 2 * 4))))
 
 -- the words of a step, and what they make: the first byte and the parameters
-abbrev pub head_bytes_lem : List ℕ → List ℕ → List ℕ
-head_bytes_lem pool words =
+abbrev pub head_bytes : List ℕ → List ℕ → List ℕ
+head_bytes pool words =
     functype (word words 0) ∷ (unsigned (word words 1) ++ elements (word words 1) 4 (labelvaltype pool) (drop 2 words))

@@ -1,5 +1,5 @@
 -- How many bytes a field has, by its words alone; where the field is right this is the length of its bytes.
-use Rattle.std.specs.Prelude.{ℕ, ◌+◌, Bool, true, false, cond, List, [], ◌∷◌, ◌++◌, eqb, length}
+use Rattle.std.specs.Prelude.{ℕ, ◌+◌, cond, List, eqb, length}
 use Rattle.numbers.specs.Leb.{unsigned, signed}
 use Rattle.fields.specs.declared.Field.{Field}
 use Rattle.fields.specs.declared.Field.TheVariants as field

@@ -1,5 +1,5 @@
 // Core instances in straight code: how many bytes a row makes, 0 where not all of it is seen to be right, and its bytes.
-ghost use Rattle.core.specs.Prelude.{◌≡◌, ℕ, ◌+◌, ◌*◌, ◌^◌, ◌<◌, ◌≤◌, List, [], ◌∷◌, length, drop};
+ghost use Rattle.std.specs.Prelude.{◌≡◌, ℕ, ◌+◌, ◌*◌, ◌^◌, ◌<◌, ◌≤◌, List, [], ◌∷◌, length, drop};
 ghost use Rattle.std.proofs.lemmas.List.Edits.{sets};
 ghost use Rattle.fields.specs.declared.Answer.TheVariants.{Size};
 ghost use Rattle.fields.specs.declared.Found.TheVariants.{Is};
