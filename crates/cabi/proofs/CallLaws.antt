@@ -1,10 +1,10 @@
 -- What an exported call leaves, from what the step by value handed back: by the state that the numbers are, or because they are none.
 -- Assumes nothing.
 use Prim.Native.Nat.{ℕ}
-use mathlib.Core.Path.{◌≡◌, sym, ap, ◌∙◌}
+use mathlib.Core.Path.{◌≡◌, sym, ◌∙◌}
 use mathlib.Core.List.{List}
 use Rattle.fields.specs.declared.Answer.{Answer}
-use Rattle.fields.specs.Answers.{Left, left}
+use Rattle.fields.specs.Answers.{left}
 use Rattle.sections.specs.declared.Section.{Section}
 use Rattle.sections.specs.declared.Turned.{Turned}
 use Rattle.sections.specs.Steps.{Turn, turned}
@@ -13,7 +13,7 @@ use Rattle.cabi.specs.declared.Reply.{Reply}
 use Rattle.cabi.specs.declared.Given.{Given}
 use Rattle.cabi.specs.declared.Given.TheVariants.{Is, Not}
 use Rattle.cabi.specs.Reply.{reply_of, limit}
-use Rattle.cabi.specs.State.{numbers_of, stepped, of_turn, step, finished, of_left, finishes}
+use Rattle.cabi.specs.State.{stepped, step, finished, finishes}
 use Rattle.cabi.specs.inside.Settled.{Settled}
 
 -- a step that a state took

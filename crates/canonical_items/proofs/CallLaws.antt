@@ -5,12 +5,10 @@ use mathlib.Core.Path.{◌≡◌, refl, sym, ap, ◌∙◌, subst}
 use mathlib.Core.Bool.{Bool, true, false, cond}
 use mathlib.Core.List.{List, [], ◌∷◌}
 use borrow.Author.Tests.{lt-ltb, le-ltb, ltb-false, eqb-false, eq-eqb, ne_eqb}
-use lib.Dec.{eqb, ltb, leb}
+use lib.Dec.{eqb, ltb}
 use lib.ListN.{length, take}
-use lib.Seq.{sets}
 use Rattle.fields.specs.declared.Field.{Field}
 use Rattle.fields.specs.declared.Field.TheVariants as field
-use Rattle.fields.specs.declared.Found.{Found}
 use Rattle.fields.specs.declared.Found.TheVariants as found
 use Rattle.fields.specs.declared.Leaf.{Leaf}
 use Rattle.fields.specs.declared.Leaf.TheVariants.{Fine, Bad}
@@ -23,7 +21,7 @@ use Rattle.fields.specs.Grades as grades
 use Rattle.fields.specs.Shape.{widths}
 use Rattle.fields.specs.Table.{two_of, shape_in}
 use Rattle.fields.specs.Words.{wide}
-use Rattle.reading.specs.Read.{scanned, filled, roomed, read_found, read_item, scanned_found, scanned_item, refusal_of}
+use Rattle.reading.specs.Read.{scanned, filled, roomed, read_item, scanned_found, scanned_item, refusal_of}
 use Rattle.reading.specs.Scan.{byte}
 use Rattle.reading.specs.Seen.{within, roomy}
 use Rattle.reading.specs.declared.Pair.{Pair}

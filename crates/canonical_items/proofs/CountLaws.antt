@@ -1,15 +1,14 @@
 -- Canonicals with options: the index and the count behind the first bytes, the options, and a lift's type.
-use Prim.Native.Nat.{ℕ, zero, suc, ◌+◌, ◌-◌, ◌*◌, ◌≤◌, ◌<◌, ◌^◌}
+use Prim.Native.Nat.{ℕ, suc, ◌+◌, ◌-◌, ◌*◌, ◌≤◌, ◌<◌}
 use native.Mathlib.Omega.{arith}
 use native.Mathlib.Nat.{add-zero}
 use mathlib.Core.Path.{◌≡◌, refl, sym, ap, ◌∙◌, subst}
 use mathlib.Core.Bool.{Bool, true, false, cond}
 use mathlib.Core.List.{List, [], ◌∷◌, ◌++◌, append-nil}
 use lib.Dec.{ltb, leb}
-use lib.ListN.{length, take, drop, set, length-drop, length-append}
+use lib.ListN.{length, take, drop, set, length-append}
 use lib.Seq.{sets, drop-drop}
 use borrow.Author.Tests.{leb-true, ltb-false}
-use Rattle.numbers.specs.declared.leb.Number.{Number}
 use Rattle.numbers.specs.declared.leb.Taken.{Taken}
 use Rattle.numbers.specs.declared.leb.Taken.TheVariants as taken
 use Rattle.numbers.specs.Leb.{take_unsigned}
@@ -20,9 +19,8 @@ use Rattle.fields.specs.declared.Leaf.TheVariants.{Fine, Bad}
 use Rattle.fields.specs.declared.Shape.{Shape}
 use Rattle.fields.specs.inside.Run.{along, makes, after}
 use Rattle.fields.specs.inside.Stages.{counted_fields}
-use Rattle.fields.specs.Shape.{opening, group, closing, repeated, widths}
+use Rattle.fields.specs.Shape.{repeated, widths}
 use Rattle.fields.specs.Table.{many_of}
-use Rattle.fields.specs.Walk.{next}
 use Rattle.fields.specs.Words.{word, wide}
 use Rattle.fields.proofs.RunLaws.{makes-append}
 use Rattle.fields.proofs.StageLaws.{walk_staged, outs_staged}
@@ -34,8 +32,7 @@ use Rattle.reading.specs.Seen.{roomy}
 use Rattle.reading.specs.declared.Tried.TheVariants as answer
 use Rattle.reading.specs.inside.Stages.{counted_scan, counted_fill}
 use Rattle.reading.specs.inside.Steps.{scans, fills, end_of}
-use Rattle.reading.specs.inside.Tried.{LeftTried, left_tried, tried}
-use Rattle.reading.proofs.FilledLaws.{fills_count}
+use Rattle.reading.specs.inside.Tried.{left_tried, tried}
 use Rattle.reading.proofs.ScannedLaws.{tells}
 use Rattle.reading.proofs.StepLaws.{Wrong, Loose, Open, scans-any, fills-any, open-append, open-repeated, end_fine, end_wrong}
 use Rattle.reading.proofs.TriedLaws.{list_of, counted_none, counted_some, counted_words}

@@ -5,7 +5,7 @@ use native.Mathlib.Omega.{arith}
 use mathlib.Core.Path.{◌≡◌, refl, sym, ap, ◌∙◌, subst}
 use mathlib.Core.Bool.{Bool, true, false, cond}
 use mathlib.Core.List.{List, [], ◌∷◌}
-use lib.Dec.{eqb, ltb, leb}
+use lib.Dec.{ltb, leb}
 use lib.ListN.{length, take, drop, set, length-drop}
 use lib.Seq.{sets}
 use borrow.Author.Tests.{lt-leb, le-leb, lt-ltb, le-ltb, leb-true, leb-false}
@@ -24,13 +24,12 @@ use Rattle.fields.specs.declared.Leaf.TheVariants.{Fine, Bad}
 use Rattle.fields.specs.declared.Refusal.TheVariants.{Newer, Code}
 use Rattle.fields.specs.declared.Site.TheVariants.{CanonOption}
 use Rattle.fields.specs.Grades.{grade_of}
-use Rattle.fields.specs.Shape.{repeated, widths}
+use Rattle.fields.specs.Shape.{widths}
 use Rattle.fields.specs.Words.{indexed, wide}
 use Rattle.reading.specs.Fill.{value_in, fill}
 use Rattle.reading.specs.Scan.{byte, past, numbered, scan_index, chosen, scan_choice, scan}
 use Rattle.reading.specs.declared.Pair.{Pair}
-use Rattle.reading.specs.Seen.{pair, pair_of, pair_is_lem, no_pair}
-use Rattle.reading.specs.inside.Steps.{scans, fills, end_of}
+use Rattle.reading.specs.Seen.{pair, pair_of, pair_is, no_pair}
 use Rattle.reading.proofs.FillLaws.{Stands, Filling, filling_as, filling_alone, set-two}
 use Rattle.reading.proofs.StepLaws.{Wrong, scan-takes, pair-some, pair_none, fill_at}
 use Rattle.canonical_items.specs.inside.Short.{is_option}
@@ -69,13 +68,13 @@ module _ (g : ℕ) (bs : List ℕ) where
         go false q e h = refl
 
     module _ (is : is_option g (byte bs 0) ≡ true) where
-      pub option_alone : indexed (byte bs 0) ≡ false → pair_is_lem 1 (byte bs 0) 0 ≡ pair g field.Choice bs
+      pub option_alone : indexed (byte bs 0) ≡ false → pair_is 1 (byte bs 0) 0 ≡ pair g field.Choice bs
       unfolding scan scan_choice fill pair_of
       option_alone e =
           simp (lt-leb (length bs) 0 some, (option_tests g (byte bs 0) is).0, (option_tests g (byte bs 0) is).1, e)
 
       behind : (r : Taken) → 0 < (seen r).took
-          → pair_is_lem (1 + (seen r).took) (byte bs 0) (seen r).value ≡ pair_of (past 1 (numbered (drop 1 bs) r 2)) (byte bs 0 ∷ value_in r ∷ [])
+          → pair_is (1 + (seen r).took) (byte bs 0) (seen r).value ≡ pair_of (past 1 (numbered (drop 1 bs) r 2)) (byte bs 0 ∷ value_in r ∷ [])
       unfolding pair_of
       behind (taken.Value n t) h = refl
       behind taken.Cut h = absurd (omega arith)
@@ -89,10 +88,10 @@ module _ (g : ℕ) (bs : List ℕ) where
       not_behind taken.Bad e h = refl
 
       pub option_indexed : indexed (byte bs 0) ≡ true → (x : Number) → x ≡ seen (take_unsigned (drop 1 bs)) → 0 < x.took
-          → pair_is_lem (1 + x.took) (byte bs 0) x.value ≡ pair g field.Choice bs
+          → pair_is (1 + x.took) (byte bs 0) x.value ≡ pair g field.Choice bs
       unfolding scan scan_choice scan_index fill
       option_indexed e x s h =
-          ap (λ (y : Number). pair_is_lem (1 + y.took) (byte bs 0) y.value) s
+          ap (λ (y : Number). pair_is (1 + y.took) (byte bs 0) y.value) s
           ∙ behind (take_unsigned (drop 1 bs)) (subst (λ (y : Number). 0 < y.took) s h)
           ∙ simp (lt-leb (length bs) 0 some, (option_tests g (byte bs 0) is).0, (option_tests g (byte bs 0) is).1, e)
 

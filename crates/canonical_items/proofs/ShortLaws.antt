@@ -17,13 +17,11 @@ use Rattle.numbers.specs.Integers.{u32}
 use Rattle.numbers.specs.Leb.{take_unsigned}
 use Rattle.numbers.specs.Seen.{seen}
 use Rattle.numbers.proofs.BytesLaws.{to_end}
-use Rattle.numbers.proofs.LebLaws.{taken-inside}
 use Rattle.numbers.proofs.SeenLaws.{seen-some, seen_none}
-use Rattle.fields.specs.declared.Field.{Field}
 use Rattle.fields.specs.declared.Field.TheVariants as field
 use Rattle.fields.specs.declared.Leaf.{Leaf}
 use Rattle.fields.specs.declared.Leaf.TheVariants.{Fine, Bad}
-use Rattle.fields.specs.declared.Refusal.TheVariants.{Code, Newer}
+use Rattle.fields.specs.declared.Refusal.TheVariants.{Code}
 use Rattle.fields.specs.inside.Run.{along, makes}
 use Rattle.fields.specs.Walk.{next, took}
 use Rattle.fields.specs.Words.{wide}
@@ -31,7 +29,7 @@ use Rattle.reading.specs.Fill.{value_in, fill}
 use Rattle.reading.specs.Scan.{byte, cut, numbered, scan_index, scan_either, scan}
 use Rattle.reading.specs.declared.Pair.{Pair}
 use Rattle.reading.specs.declared.Tried.TheVariants as tried
-use Rattle.reading.specs.Seen.{pair_is_lem}
+use Rattle.reading.specs.Seen.{pair_is}
 use Rattle.reading.specs.inside.Steps.{scans, fills}
 use Rattle.reading.specs.inside.Tried.{left_tried}
 use Rattle.reading.proofs.ScannedLaws.{one_takes}
@@ -39,7 +37,7 @@ use Rattle.canonical_items.specs.declared.options.Head.{Head}
 use Rattle.canonical_items.specs.declared.short.Short.{Short}
 use Rattle.canonical_items.specs.declared.short.Short.TheVariants as short
 use Rattle.canonical_items.specs.declared.short.Step.{Step}
-use Rattle.canonical_items.specs.inside.Short.{field_of, Stepped, step_is, either_step, short_words, Told, stored, Opened, Unopened}
+use Rattle.canonical_items.specs.inside.Short.{field_of, Stepped, step_is, either_step, Told, stored, Opened, Unopened}
 
 -- ---- one of two bytes
 
@@ -155,12 +153,12 @@ module _ (g : ℕ) (f h : Short) (input : List ℕ) (from : ℕ) (one : Step) (k
 
   -- the first is not right
   pub first_wrong : one.next ≤ 0 → 0 < from
-      → Told f h (scans g input (field_of f ∷ field_of h ∷ []) from 1) (fills g input (field_of f ∷ field_of h ∷ []) from) (pair_is_lem 0 0 0)
+      → Told f h (scans g input (field_of f ∷ field_of h ∷ []) from 1) (fills g input (field_of f ∷ field_of h ∷ []) from) (pair_is 0 0 0)
   unfolding along
   first_wrong n some = go (scan 1 g (field_of f) (drop from input)) k
     where
       go : (l : Leaf) → Stepped from l (fill g (field_of f) from (drop from input)) one
-          → Told f h (next l rest from) (fills g input (field_of f ∷ field_of h ∷ []) from) (pair_is_lem 0 0 0)
+          → Told f h (next l rest from) (fills g input (field_of f ∷ field_of h ∷ []) from) (pair_is 0 0 0)
       go (Fine t m) s = absurd (omega (arith, s.0, n, some))
       go (Bad w j) s = refl
 
@@ -184,10 +182,10 @@ module _ (g : ℕ) (f h : Short) (input : List ℕ) (from : ℕ) (one : Step) (k
   -- both
   pub both_told : 0 < one.next → (two : Step) → Steps g h one.next input two
       → Told f h (scans g input (field_of f ∷ field_of h ∷ []) from 1) (fills g input (field_of f ∷ field_of h ∷ []) from)
-      (pair_is_lem two.next one.value two.value)
+      (pair_is two.next one.value two.value)
   unfolding along makes
   both_told n two s =
-      subst (λ l. Told f h l (fills g input (field_of f ∷ field_of h ∷ []) from) (pair_is_lem two.next one.value two.value)) (sym ended)
+      subst (λ l. Told f h l (fills g input (field_of f ∷ field_of h ∷ []) from) (pair_is two.next one.value two.value)) (sym ended)
       (go (scan 1 g (field_of h) (drop at input)) refl (subst (λ j. Steps g h j input two) q.3 s))
     where
       q : (t : ℕ) × (m : ℕ) × (scan 1 g (field_of f) (drop from input) ≡ Fine t m) × (one.next ≡ from + t)
@@ -216,7 +214,7 @@ module _ (g : ℕ) (f h : Short) (input : List ℕ) (from : ℕ) (one : Step) (k
       wide_first = (one_takes 1 g (field_of f) (drop from input) _ refl q.0 q.1 q.2).1
 
       go : (l : Leaf) → scan 1 g (field_of h) (drop at input) ≡ l → Stepped at l (fill g (field_of h) at (drop at input)) two
-          → Told f h (next l after at) (fills g input (field_of f ∷ field_of h ∷ []) from) (pair_is_lem two.next one.value two.value)
+          → Told f h (next l after at) (fills g input (field_of f ∷ field_of h ∷ []) from) (pair_is two.next one.value two.value)
       go (Fine u v) e s =
           let wide-second : v ≡ wide (field_of h) = (one_takes 1 g (field_of h) (drop at input) _ refl u v e).1 in (
             omega (arith, s.0, q.3, n),

@@ -51,7 +51,7 @@ use Rattle.sections.specs.Steps.{Turn, turned, gives, rowing, opening}
 use Rattle.sections.proofs.TurnLaws.{row_turns, open_turns, accepted_grows}
 use Rattle.sheets.specs.Frame as frame
 use Rattle.sheets.specs.Sheet.{family_of, tries, joined, finished, sheeted}
-use Rattle.claims.specs.Bad.{Lent, Writer, SameBytes, WritesNothing, Reader, AlwaysNewer, BadVersions}
+use Rattle.claims.specs.Bad.{Lent, LentMut, Writer, SameBytes, WritesNothing, Reader, AlwaysNewer, BadVersions}
 use Rattle.claims.specs.Kept.{number_of_read}
 use Rattle.claims.proofs.Kept.{refusal_number}
 
@@ -74,6 +74,9 @@ lifetimes (suc n) = ([], lifetimes n)
 -- bytes or words at the front of a block
 abbrev lent : List ℕ → Lent
 lent l = record { ref_ptr = (0, 0); now = l }
+
+abbrev lent_mut : List ℕ → LentMut
+lent_mut l = record { ref_ptr = (0, 0); ghost_name = 0; now = l }
 
 -- two rows of each family: string and bool
 abbrev string : List ℕ
@@ -111,23 +114,23 @@ abbrev string_sheet : List ℕ
 string_sheet = 1 ∷ 0 ∷ 0 ∷ 0 ∷ 0 ∷ 0 ∷ 0 ∷ 0 ∷ 2 ∷ 0 ∷ 0 ∷ 0 ∷ 0 ∷ 0 ∷ 0 ∷ 0 ∷ 12 ∷ []
 
 -- what the calls are given: a row and its pool over a buffer, bytes at a grade over a row, sections and sheets
-abbrev writing : List ℕ → List ℕ → List ℕ → Lent × (Lent × (Lent × (ℕ × Unit {0})))
-writing row pool out = (lent row, (lent pool, (lent out, (0, tt))))
+abbrev writing : List ℕ → List ℕ → List ℕ → Lent × (Lent × (LentMut × (ℕ × Unit {0})))
+writing row pool out = (lent row, (lent pool, (lent_mut out, (0, tt))))
 
-abbrev reading : List ℕ → ℕ → List ℕ → Lent × (ℕ × (Lent × Unit {0}))
-reading input g row = (lent input, (g, (lent row, tt)))
+abbrev reading : List ℕ → ℕ → List ℕ → Lent × (ℕ × (LentMut × Unit {0}))
+reading input g row = (lent input, (g, (lent_mut row, tt)))
 
-abbrev adding : Section × (Lent × (Lent × (Lent × Unit {0})))
-adding = (begun, (lent string, (lent [], (lent (0x73 ∷ 0 ∷ []), tt))))
+abbrev adding : Section × (Lent × (Lent × (LentMut × Unit {0})))
+adding = (begun, (lent string, (lent [], (lent_mut (0x73 ∷ 0 ∷ []), tt))))
 
-abbrev starting : Section × (Lent × Unit {0})
-starting = (fresh 7, (lent [], tt))
+abbrev starting : Section × (LentMut × Unit {0})
+starting = (fresh 7, (lent_mut [], tt))
 
-abbrev ending : Section × (Lent × (Lent × Unit {0}))
-ending = (begun, (lent (0x73 ∷ 0 ∷ []), (lent (zeros 4), tt)))
+abbrev ending : Section × (Lent × (LentMut × Unit {0}))
+ending = (begun, (lent (0x73 ∷ 0 ∷ []), (lent_mut (zeros 4), tt)))
 
-abbrev sheeting : Lent × (Lent × (Lent × Unit {0}))
-sheeting = (lent string_sheet, (lent (zeros 1), (lent (zeros 4), tt)))
+abbrev sheeting : Lent × (LentMut × (LentMut × Unit {0}))
+sheeting = (lent string_sheet, (lent_mut (zeros 1), (lent_mut (zeros 4), tt)))
 
 -- ---- what the contracts name there
 
@@ -219,31 +222,31 @@ names write κs a = let l = write a.0.now a.1.0.now a.1.1.0.now a.1.1.1.0 in (l.
 
 -- a writer of any family, by what it writes of one row and of another
 module _ (write : List ℕ → List ℕ → List ℕ → ℕ → Left) (v : Writer)
-    (met : (κs : Lfts 3) (a : Lent × (Lent × (Lent × (ℕ × Unit {0})))) → Unit {0}
+    (met : (κs : Lfts 3) (a : Lent × (Lent × (LentMut × (ℕ × Unit {0})))) → Unit {0}
     → (fact w₀.𝓤 (left (v κs a).0 (v κs a).1.1.1.0 ≡ write a.0.now a.1.0.now a.1.1.0.now a.1.1.1.0)).holds w₀.𝓤.one)
     {row pool out bs : List ℕ} {m : ℕ} (first : write row pool out 0 ≡ left (Size m) bs) where
-  writer_refuses : ((κs : Lfts 3) (a : Lent × (Lent × (Lent × (ℕ × Unit {0})))) → number_of (v κs a).0 ≡ 0 → ⊥) → ⊥
+  writer_refuses : ((κs : Lfts 3) (a : Lent × (Lent × (LentMut × (ℕ × Unit {0})))) → number_of (v κs a).0 ≡ 0 → ⊥) → ⊥
   writer_refuses bad = told (met (lifetimes 3) (writing row pool out) tt) (λ p. bad (lifetimes 3) (writing row pool out) (ok (p ∙ first)))
 
   writer_nothing : (bs ≡ out → ⊥) → WritesNothing v → ⊥
   writer_nothing some bad =
       told (met (lifetimes 3) (writing row pool out) tt) (λ p.
-      some (ap (λ l. l.buffer) (sym (p ∙ first)) ∙ bad (lifetimes 3) (lent row) (lent pool) (lent out) 0 (ok (p ∙ first))))
+      some (ap (λ l. l.buffer) (sym (p ∙ first)) ∙ bad (lifetimes 3) (lent row) (lent pool) (lent_mut out) 0 (ok (p ∙ first))))
 
   writer_same : {other cs : List ℕ} {k : ℕ} → write other pool out 0 ≡ left (Size k) cs → (bs ≡ cs → ⊥) → SameBytes v → ⊥
   writer_same {other} second differ bad =
       told (met (lifetimes 3) (writing row pool out) tt) (λ p.
       told (met (lifetimes 3) (writing other pool out) tt) (λ q.
       differ (ap (λ l. l.buffer) (sym (p ∙ first))
-      ∙ bad (lifetimes 3) (lent row) (lent other) (lent pool) (lent out) 0 (ok (p ∙ first)) (ok (q ∙ second))
+      ∙ bad (lifetimes 3) (lent row) (lent other) (lent pool) (lent_mut out) 0 (ok (p ∙ first)) (ok (q ∙ second))
       ∙ ap (λ l. l.buffer) (q ∙ second))))
 
 -- a reader, by bytes that it takes at each grade
 module _ (reads : ℕ → List ℕ → List ℕ → LeftRow) (v : Reader)
-    (met : (κs : Lfts 2) (a : Lent × (ℕ × (Lent × Unit {0}))) → Unit {0}
+    (met : (κs : Lfts 2) (a : Lent × (ℕ × (LentMut × Unit {0}))) → Unit {0}
     → (fact w₀.𝓤 (left_row (v κs a).0 (v κs a).1.1.1.0 ≡ reads a.1.0 a.0.now a.1.1.0.now)).holds w₀.𝓤.one)
     {input row ws : List ℕ} {n k : ℕ} (fine : (g : ℕ) → 1 ≤ g → g ≤ 3 → reads g input row ≡ left_row (read.Item n k) ws) where
-  reader_refuses : ((κs : Lfts 2) (a : Lent × (ℕ × (Lent × Unit {0}))) → number_of_read (v κs a).0 ≡ 0 → ⊥) → ⊥
+  reader_refuses : ((κs : Lfts 2) (a : Lent × (ℕ × (LentMut × Unit {0}))) → number_of_read (v κs a).0 ≡ 0 → ⊥) → ⊥
   reader_refuses bad =
       told (met (lifetimes 2) (reading input 1 row) tt) (λ p.
       bad (lifetimes 2) (reading input 1 row) (ap (λ l. number_of_read l.answer) (p ∙ fine 1 (omega arith) (omega arith))))
@@ -252,7 +255,7 @@ module _ (reads : ℕ → List ℕ → List ℕ → LeftRow) (v : Reader)
   reader_newer b =
       told (met (lifetimes 2) (reading input b.g row) tt) (λ p.
       let z : ◌≡◌ {A = ℕ} 14 0 =
-      sym (b.newer (lifetimes 2) (lent input) (lent row)) ∙ ap (λ l. number_of_read l.answer) (p ∙ fine b.g b.from b.to)
+      sym (b.newer (lifetimes 2) (lent input) (lent_mut row)) ∙ ap (λ l. number_of_read l.answer) (p ∙ fine b.g b.from b.to)
       in omega (arith, z))
 
 -- the count of a small section stands behind its id and its size
@@ -364,7 +367,7 @@ bad_versions = record {
   row_only_says_ok = λ v bad h.
       told (h (lifetimes 3) adding tt) (λ p.
       apart 1 (λ e. omega (arith, e)) (ap (λ t. t.body) (sym (p ∙ row_added))
-      ∙ bad (lifetimes 3) begun (lent string) (lent []) (lent (0x73 ∷ 0 ∷ [])) (omega arith) (turned_ok (p ∙ row_added))));
+      ∙ bad (lifetimes 3) begun (lent string) (lent []) (lent_mut (0x73 ∷ 0 ∷ [])) (omega arith) (turned_ok (p ∙ row_added))));
   row_miscounts = λ v b h.
       told (h b.κs (b.s, (b.row, (b.pool, (b.body, tt)))) tt) (λ p.
       b.another (subst (λ t. number_of t.gave.answer ≡ 0 → t.gave.section.count ≡ b.s.count + 1) (sym p)

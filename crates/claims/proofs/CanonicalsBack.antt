@@ -28,7 +28,7 @@ use Rattle.fields.specs.Walk.{Plan, end, step}
 use Rattle.fields.specs.Words.{word, wide, Words}
 use Rattle.reading.specs.Read.{read_item}
 use Rattle.reading.specs.Scan.{byte}
-use Rattle.round_trip.specs.Mark.{Mark, Clear, At, mark, ahead, first_mark, row_mark, SameItem}
+use Rattle.round_trip.specs.Mark.{Clear, At, mark, ahead, first_mark, row_mark, SameItem}
 use Rattle.round_trip.specs.Padded.{Padded}
 use Rattle.round_trip.specs.Returned.{ReadBack, ReadsBack}
 use Rattle.round_trip.proofs.ItemLaws.{WrittenAgain, item-only}

@@ -35,7 +35,7 @@ use Rattle.round_trip.specs.Padded.{Padded}
 use Rattle.round_trip.proofs.ItemLaws as item
 use Rattle.round_trip.proofs.PaddedLaws.{padded_by, padded-again}
 use Rattle.items.specs.ReadType.{lead_grade, read_type}
-use Rattle.claims.specs.Demand3.{type_mark, canonical_mark, import_mark, core_instance_mark, instance_mark, shape_by, flags_row, flags_pool, flags_bytes, other_words, Demand3, reads, SameBy, Same, first_above, Marking, ReadBack, Returned, WrittenAgain}
+use Rattle.claims.specs.Demand3.{type_mark, import_mark, core_instance_mark, instance_mark, shape_by, flags_row, flags_pool, flags_bytes, other_words, Demand3, reads, SameBy, Same, first_above, Marking, ReadBack, Returned, WrittenAgain}
 use Rattle.types.specs.Table as typeTable
 use Rattle.types.specs.Write as typeWrite
 use Rattle.types.specs.Write.{measured_type, write_type}

@@ -1,6 +1,6 @@
 -- Imports: what was written is read back, or refused at its first byte above the grade; and what is accepted is written again beside its
 -- own bytes.
-use Prim.Native.Nat.{ℕ, ◌+◌, ◌^◌, ◌≤◌}
+use Prim.Native.Nat.{ℕ, ◌^◌, ◌≤◌}
 use native.Mathlib.Omega.{arith}
 use mathlib.Core.Path.{◌≡◌, subst}
 use mathlib.Core.List.{List, ◌++◌}

@@ -37,7 +37,7 @@ use Rattle.writing.specs.Write.{measured, written, stored, write_shape}
 use Rattle.writing.proofs.AnswerLaws.{measured_sized}
 use Rattle.reading.proofs.FilledLaws.{fill-length}
 use Rattle.reading.proofs.ScanLaws.{Within, scan-within}
-use Rattle.writing.proofs.WholeLaws.{accepted, size_is_length}
+use Rattle.writing.proofs.WholeLaws.{size_is_length}
 use Rattle.items.specs.ReadType.{read_type}
 use Rattle.types.specs.Write as types
 use Rattle.types.specs.Write.{write_type}

@@ -13,7 +13,6 @@ use Rattle.numbers.specs.Bytes.{Bytes}
 use Rattle.numbers.proofs.BytesLaws.{sets_back}
 use Rattle.numbers.specs.Leb.{unsigned}
 use Rattle.fields.specs.declared.Answer.TheVariants.{Size}
-use Rattle.fields.specs.declared.Field.{Field}
 use Rattle.fields.specs.declared.Field.TheVariants as field
 use Rattle.fields.specs.declared.Found.TheVariants.{Is}
 use Rattle.fields.specs.declared.Leaf.{Leaf}

@@ -8,22 +8,18 @@ use lib.Dec.{leb}
 use lib.ListN.{length, take, drop}
 use Rattle.numbers.specs.Beginnings.{LongestBeginning}
 use Rattle.numbers.specs.Leb.{take_unsigned}
-use Rattle.numbers.specs.Text.{text, stop, spelling_of}
-use Rattle.numbers.specs.declared.leb.Taken.{Taken}
+use Rattle.numbers.specs.Text.{text, stop}
 use Rattle.numbers.specs.declared.leb.Taken.TheVariants as taken
 use Rattle.numbers.proofs.Beginnings.{longest, stops_there}
 use Rattle.numbers.proofs.TextLaws.{right-text, spelled_right, spelled_wrong}
 use Rattle.numbers.proofs.Impossible.{impossible}
-use Rattle.fields.specs.declared.Flaw.{Flaw}
 use Rattle.fields.specs.declared.Flaw.TheVariants.{Right, Wrong}
-use Rattle.fields.specs.declared.Leaf.{Leaf}
 use Rattle.fields.specs.declared.Leaf.TheVariants.{Fine, Bad}
 use Rattle.fields.specs.declared.Offset.{Offset}
 use Rattle.fields.specs.declared.Refusal.TheVariants as refusal
 use Rattle.fields.specs.Answers.{offset_of, byte_at}
 use Rattle.fields.specs.Words.{word, chars}
 use Rattle.writing.specs.Judge as judge
-use Rattle.reading.specs.Scan as scans
 use Rattle.reading.specs.Scan.{cut, scan_name}
 use Rattle.claims.specs.Names.{NamesStop}
 

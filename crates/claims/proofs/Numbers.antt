@@ -13,7 +13,6 @@ use Rattle.numbers.specs.Numbers as numbers
 use Rattle.numbers.specs.Text as text
 use Rattle.numbers.proofs.BytesLaws.{store-either}
 use Rattle.fields.specs.declared.Found.{Found}
-use Rattle.fields.specs.declared.Found.TheVariants as found
 use Rattle.fields.specs.declared.Read.{Read}
 use Rattle.fields.specs.declared.Read.TheVariants as read
 use Rattle.fields.specs.declared.Refusal.TheVariants as refusal

@@ -41,13 +41,13 @@ twice = record { ref_ptr = (0, 0); now = 0x61 ∷ 0x61 ∷ [] }
 abbrev byte_at : ℕ → Bor (List ℕ)
 byte_at p = record { ref_ptr = (0, p); now = 0x61 ∷ [] }
 
-pub part-two : OneOutcome call-part.ended (λ M. call-part.clauses) → ⊥
+pub part-two : OneOutcome call-part.ended (λ M 𝓤. call-part.clauses) → ⊥
 unfolding part_of
 part-two h =
     ∥∥₁_elim
     ((h w₀ ([], tt) (twice, (0, (1, tt))) tt (byte_at 0, (tt, (tt, (tt, tt)))) (byte_at 1, (tt, (tt, (tt, tt))))).apply w₀.𝓤.one
     (∣ (refl, tt) ∣₁, ∣ (refl, tt) ∣₁))
-    ⊥_prop (λ t. let z : ◌≡◌ {A = ℕ} 0 1 = ap (λ x. x.0.ptr.1) t.0 in omega arith)
+    ⊥_prop (λ t. let z : ◌≡◌ {A = ℕ} 0 1 = ap (λ x. x.0.ref_ptr.1) t.0 in omega arith)
 
 pub no_second_outcome : NoSecondOutcome
 no_second_outcome = record {
@@ -137,16 +137,16 @@ no_second_outcome = record {
   tb_result_lem = λ w κs a g x y. one w (λ l. (l.reply, (l.state, (tt, (tt, (l.body, tt))))));
   tb_abandon_lem = λ w κs a g x y. one w (λ l. (l.reply, (l.state, (l.body, tt))));
   tb_finish_lem = λ w κs a g x y. one w (λ l. (l.reply, (tt, (tt, (l.out, tt)))));
-  say = λ w κs a g x y. one w (λ l. (l, (tt, tt)));
-  say_line_lem = λ w κs a g x y. one w (λ l. (l, (tt, tt)));
-  say_number_lem = λ w κs a g x y. one w (λ l. (l, (tt, tt)));
-  say_field_lem = λ w κs a g x y. one w (λ l. (l, (tt, (tt, tt))));
-  say_count_lem = λ w κs a g x y. one w (λ l. (l, (tt, (tt, (tt, tt)))));
-  say_bytes_lem = λ w κs a g x y. one w (λ l. (l, (tt, tt)));
-  say_name_lem = λ w κs a g x y. one w (λ l. (l, (tt, tt)));
-  say_meaning_lem = λ w κs a g x y. one w (λ l. (l, (tt, tt)));
-  say_byte_lem = λ w κs a g x y. one w (λ l. (l, (tt, tt)));
-  say_refusal_lem = λ w κs a g x y. one w (λ l. (l, (tt, (tt, tt))));
+  say = λ w κs a g x y. one w (λ l. (l, (tt, (tt, tt))));
+  say_line_lem = λ w κs a g x y. one w (λ l. (l, (tt, (tt, tt))));
+  say_number_lem = λ w κs a g x y. one w (λ l. (l, (tt, (tt, tt))));
+  say_field_lem = λ w κs a g x y. one w (λ l. (l, (tt, (tt, (tt, tt)))));
+  say_count_lem = λ w κs a g x y. one w (λ l. (l, (tt, (tt, (tt, (tt, tt))))));
+  say_bytes_lem = λ w κs a g x y. one w (λ l. (l, (tt, (tt, tt))));
+  say_name_lem = λ w κs a g x y. one w (λ l. (l, (tt, (tt, tt))));
+  say_meaning_lem = λ w κs a g x y. one w (λ l. (l, (tt, (tt, tt))));
+  say_byte_lem = λ w κs a g x y. one w (λ l. (l, (tt, (tt, tt))));
+  say_refusal_lem = λ w κs a g x y. one w (λ l. (l, (tt, (tt, (tt, tt)))));
   starts_with = λ w κs a g x y. one w (λ l. (l, (tt, (tt, tt))));
   next_of = λ w κs a g x y. one w (λ l. (l, (tt, (tt, (tt, tt)))));
   size_after_lem = λ w κs a g x y. one w (λ l. (l, (tt, (tt, tt))));
@@ -157,7 +157,7 @@ no_second_outcome = record {
   pattern = λ w κs a g x y. one w (λ l. (l, (tt, (tt, tt))));
   fill = λ w κs a g x y. one w (λ l. (tt, (l, (tt, tt))));
   is_kept_lem = λ w κs a g x y. one w (λ l. (l, (tt, (tt, (tt, (tt, tt))))));
-  end_line = λ w κs a g x y. one w (λ l. (l, (tt, tt)));
+  end_line = λ w κs a g x y. one w (λ l. (l, (tt, (tt, tt))));
   part = λ w κs a g x y. one w (λ l. l);
   part_is_an_exception = part-two;
   plainly = λ T C h κs a g x y m p q. ∥∥₁_map ((h w₀ κs a g x y).apply m (p, q)) (λ t. t.0);

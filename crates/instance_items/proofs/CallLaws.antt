@@ -12,7 +12,6 @@ use Rattle.fields.specs.declared.Read.TheVariants as read
 use Rattle.fields.specs.Answers.{left_row}
 use Rattle.fields.specs.Table.{shape_in}
 use Rattle.reading.specs.Read.{read_item, scanned_item, refusal_of}
-use Rattle.reading.specs.Scan.{byte}
 use Rattle.reading.specs.declared.Tried.{Tried}
 use Rattle.reading.specs.declared.Tried.TheVariants.{Item, Not}
 use Rattle.reading.specs.Seen.{within}

@@ -24,7 +24,7 @@ use Rattle.fields.specs.Words.{wide}
 use Rattle.reading.specs.Fill.{value_in, index, fill, fill_sort_index}
 use Rattle.reading.specs.Scan.{byte, past, numbered, scan, scan_index, scan_module, scan_argument, scan_core_sort_index, scan_sort_index}
 use Rattle.reading.specs.declared.Pair.{Pair}
-use Rattle.reading.specs.Seen.{pair, pair_of, pair_is_lem, no_pair}
+use Rattle.reading.specs.Seen.{pair, pair_of, pair_is, no_pair}
 use Rattle.reading.specs.inside.Steps.{end_of}
 use Rattle.reading.proofs.FillLaws.{name_words}
 use Rattle.reading.proofs.LeafLaws.{index_seen}
@@ -193,9 +193,9 @@ pair-words kind bs {x} k e h =
 -- ---- a sort and, behind k bytes, an index
 
 module _ (sort k : ℕ) (bs : List ℕ) (n : Number) (e : n ≡ seen (take_unsigned (drop k bs))) where
-  pub sorted_some : 0 < n.took → pair_is_lem (k + n.took) sort n.value ≡ sort_pair sort k bs
+  pub sorted_some : 0 < n.took → pair_is (k + n.took) sort n.value ≡ sort_pair sort k bs
   sorted_some h =
-      let is : pair_is_lem (k + n.took) sort n.value ≡ sort_is sort k n = simp (lt-ltb 0 n.took h) in
+      let is : pair_is (k + n.took) sort n.value ≡ sort_is sort k n = simp (lt-ltb 0 n.took h) in
       is ∙ ap (λ (x : Number). sort_is sort k x) e
 
   pub sorted_none : n.took ≤ 0 → no_pair ≡ sort_pair sort k bs
@@ -231,7 +231,7 @@ module _ (g : ℕ) (bs : List ℕ) (some : 0 < length bs) where
   -- ---- an argument
 
   module _ (n : Number) (e : n ≡ seen (take_unsigned (drop 1 bs))) (first : byte bs 0 ≡ 0x12) where
-    pub argument_some : 0 < n.took → pair_is_lem (1 + n.took) n.value 0 ≡ pair g field.Argument bs
+    pub argument_some : 0 < n.took → pair_is (1 + n.took) n.value 0 ≡ pair g field.Argument bs
     unfolding scan fill scan_argument scan_index pair_of
     argument_some h = simp (lt-leb (length bs) 0 some, first, (index_seen (drop 1 bs) n e h).0)
 

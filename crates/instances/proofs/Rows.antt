@@ -1,5 +1,5 @@
 -- A row of an instance that is accepted is written as its production says, and its size is the length of its bytes and no larger than can be; it has a byte.
-use Rattle.core.specs.Prelude.{◌≡◌, ℕ, ◌<◌, false, List, length}
+use Rattle.std.specs.Prelude.{◌≡◌, ℕ, ◌<◌, false, List, length}
 use mathlib.Core.Path.{refl}
 use Rattle.fields.specs.declared.Answer.TheVariants.{Size, Refused}
 use Rattle.fields.specs.declared.Refusal.TheVariants.{Room}

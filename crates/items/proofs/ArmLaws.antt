@@ -1,13 +1,12 @@
 -- The arms of reading by the first byte: what an item that was read once and stored leaves is what its kind's shape says.
 use Prim.Native.Nat.{ℕ, ◌+◌, ◌≤◌, ◌<◌}
 use native.Mathlib.Omega.{arith}
-use mathlib.Core.Path.{◌≡◌, refl, sym, ap, ◌∙◌, subst}
+use mathlib.Core.Path.{◌≡◌, refl, sym, ap, ◌∙◌}
 use mathlib.Core.Bool.{Bool, true, false}
 use mathlib.Core.List.{List, [], ◌∷◌}
 use borrow.Author.Tests.{lt-ltb, le-ltb, lt-leb, ltb-false, ne_eqb}
 use lib.Dec.{eqb, ltb}
 use lib.ListN.{length, get_or, drop}
-use lib.Seq.{sets}
 use Rattle.fields.specs.declared.Field.{Field}
 use Rattle.fields.specs.declared.Field.TheVariants as field
 use Rattle.fields.specs.declared.Found.TheVariants.{Is}
@@ -27,12 +26,12 @@ use Rattle.fields.specs.Table.{two_of, shape_in}
 use Rattle.fields.specs.Walk.{walk}
 use Rattle.reading.specs.declared.Tried.TheVariants as tried
 use Rattle.reading.specs.inside.Steps.{scans, fills, end_of}
-use Rattle.reading.specs.inside.Tried.{LeftTried, left_tried, tried, tried_found}
+use Rattle.reading.specs.inside.Tried.{left_tried, tried, tried_found}
 use Rattle.reading.specs.Seen.{roomy}
 use Rattle.reading.proofs.StepLaws.{Open, scans-any, fills-any, end_made, end_fine}
 use Rattle.reading.proofs.TriedLaws.{two_scanned, two_filled, front_scanned, front_filled, many_scanned, many_filled, list_of}
 use Rattle.items.specs.declared.item.Item.{Item}
-use Rattle.items.specs.inside.Item.{item_words, Told, stored}
+use Rattle.items.specs.inside.Item.{Told, stored}
 use Rattle.items.specs.inside.Group.{group_one, group_two, counted_of}
 use Rattle.items.specs.ReadType.{kind_in, kind_of, lead_grade}
 use Rattle.types.specs.Table.{two, many}

@@ -26,7 +26,7 @@ use Rattle.fields.specs.Words.{wide}
 use Rattle.reading.specs.Read.{scanned, filled}
 use Rattle.reading.specs.inside.Stages.{counted_scan, counted_fill}
 use Rattle.fields.specs.inside.Run.{along, makes, after}
-use Rattle.reading.specs.Scan.{byte, scan}
+use Rattle.reading.specs.Scan.{scan}
 use Rattle.fields.specs.Shape.{group, closing, repeated, widths}
 use Rattle.fields.specs.Walk.{next}
 use Rattle.reading.proofs.FilledLaws.{fills_count}
@@ -40,8 +40,6 @@ use Rattle.reading.specs.inside.Tried.{LeftTried, left_tried, tried}
 use Rattle.reading.proofs.StepLaws.{Wrong, fill_at, pair-some, pair_none, end_fine, end_wrong}
 use Rattle.reading.proofs.TriedLaws.{async_scanned, async_filled, counted_none, counted_some, counted_words, list_of}
 use Rattle.items.specs.inside.Group.{group_of, counted_of}
-use Rattle.items.specs.inside.Item.{stored}
-use Rattle.types.specs.Table.{many}
 use Rattle.types.specs.inside.Function.{function_shape}
 use Rattle.numbers.proofs.Impossible.{impossible}
 

@@ -19,7 +19,7 @@ use Rattle.fields.specs.Words.{wide}
 use Rattle.reading.specs.Scan.{byte, then_zero, scan_optional, scan}
 use Rattle.fields.specs.Shape.{repeated, widths}
 use Rattle.reading.specs.declared.Pair.{Pair}
-use Rattle.reading.specs.Seen.{pair, pair_is_lem}
+use Rattle.reading.specs.Seen.{pair, pair_is}
 use Rattle.reading.specs.inside.Steps.{scans, end_of}
 use Rattle.reading.proofs.StepLaws.{Wrong, Taking, Going, pair-some, pair_none, name-any, scan-takes, going_alone, labels-any}
 use Rattle.reading.proofs.ValueLaws.{value-index}
@@ -33,9 +33,9 @@ some zero n = absurd (n refl)
 some (suc t) n = omega arith
 
 -- a step of two words that took bytes: its field is right
-pair_is : (g : ℕ) (f : Field) (bs : List ℕ) {x : Pair} → wide f ≡ 2 → x ≡ pair g f bs → 0 < x.took
+pair_is_lem : (g : ℕ) (f : Field) (bs : List ℕ) {x : Pair} → wide f ≡ 2 → x ≡ pair g f bs → 0 < x.took
     → (scan 1 g f bs ≡ Fine x.took 2) × (x.took ≤ length bs)
-pair_is g f bs {x} w e h =
+pair_is_lem g f bs {x} w e h =
     let k = pair-some g f bs w (subst (λ (y : Pair). 0 < y.took) e h) in
     let t : (pair g f bs).took ≡ x.took = ap (λ (y : Pair). y.took) (sym e) in
     (k.0 ∙ ap (λ (m : ℕ). Fine m 2) t, subst (λ (m : ℕ). m ≤ length bs) t k.2)
@@ -45,7 +45,7 @@ pub step-some : (g : ℕ) (f : Field) (input : List ℕ) (at : ℕ) {x : Pair} �
     → x ≡ pair g f (take (length input - at) (drop at input)) → (x.took ≡ 0 → ⊥)
     → (scan 1 g f (drop at input) ≡ Fine x.took 2) × (x.took ≤ length input - at)
 step-some g f input at {x} w e n =
-    let k = pair_is g f (drop at input) w (e ∙ ap (λ (s : List ℕ). pair g f s) (to_end input at)) (some x.took n) in
+    let k = pair_is_lem g f (drop at input) w (e ∙ ap (λ (s : List ℕ). pair g f s) (to_end input at)) (some x.took n) in
     (k.0, subst (λ (m : ℕ). x.took ≤ m) (length-drop at input) k.1)
 
 -- one that took none: its field is not right
@@ -80,7 +80,7 @@ value-short g input at {x} e n =
     let p : x ≡ short_signed s = e ∙ ap short_signed (to_end input at) in
     let h : 0 < x.took = some x.took n in
     let v = value-index g s _ _ (short-some s (subst (λ (y : Number). 0 < y.took) p h)).0 in
-    let k = pair_is g field.Value s {x = pair_is_lem x.took 1 x.value} refl (ap (λ (y : Number). pair_is_lem y.took 1 y.value) p ∙ v) h in
+    let k = pair_is_lem g field.Value s {x = pair_is x.took 1 x.value} refl (ap (λ (y : Number). pair_is y.took 1 y.value) p ∙ v) h in
     (k.0, subst (λ (m : ℕ). x.took ≤ m) (length-drop at input) k.1)
 
 -- a group of one field, to any place that is past it
@@ -120,7 +120,7 @@ module _ (g : ℕ) (bs : List ℕ) {x : Pair} (e : x ≡ pair g field.Optional b
   -- the same of the step that read the O
   optional_is : 0 < x.took → scan 1 g field.Optional bs ≡ Fine x.took 2
   unfolding wide
-  optional_is h = (pair_is g field.Optional bs refl e h).0
+  optional_is h = (pair_is_lem g field.Optional bs refl e h).0
 
   pub case_fine : 0 < x.took → x.took < length bs → byte bs x.took ≡ 0 → x.took + 1 ≡ end_of (scan 1 g field.OptionalThenZero bs)
   case_fine h k z = case_is g bs x.took (optional_is h) k z

@@ -1,17 +1,15 @@
 -- A kind that is no map, list of fixed length, future or stream begins with a byte of grade 1.
 use Prim.Native.Nat.{ℕ}
-use mathlib.Core.Path.{◌≡◌, refl, sym, ap, ◌∙◌}
+use mathlib.Core.Path.{◌≡◌, refl}
 use mathlib.Core.Bool.{Bool, true, false, cond}
 use mathlib.Core.List.{List, [], ◌∷◌}
 use borrow.Author.Tests.{eqb-true}
 use lib.Dec.{eqb}
-use Rattle.fields.specs.declared.Found.{Found}
 use Rattle.fields.specs.declared.Found.TheVariants.{Is}
 use Rattle.fields.specs.declared.Site.TheVariants.{TypeLead}
 use Rattle.fields.specs.Grades as grades
 use Rattle.fields.specs.Table.{Line, shape_in}
 use Rattle.types.specs.Table.{table}
-use Rattle.types.specs.Write.{shape_of}
 use Rattle.items.specs.ReadType.{lead_grade}
 
 -- the lines of these four kinds, or of a lead of grade 1

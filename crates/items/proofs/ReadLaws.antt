@@ -1,5 +1,5 @@
 -- An item that is read has few words.
-use Prim.Native.Nat.{ℕ, ◌-◌}
+use Prim.Native.Nat.{ℕ}
 use mathlib.Core.List.{List}
 use Rattle.reading.specs.inside.Few.{Few}
 use Rattle.items.specs.ReadImport.{read_import}

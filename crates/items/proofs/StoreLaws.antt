@@ -24,7 +24,7 @@ use Rattle.fields.specs.Words.{wide}
 use Rattle.reading.specs.Scan.{byte, cut, past, numbered, scan_index, scan_either, scan_optional_index, scan}
 use Rattle.reading.specs.declared.Pair.{Pair}
 use Rattle.reading.specs.declared.Tried.TheVariants as tried
-use Rattle.reading.specs.Seen.{one, one_of, pair, pair_of, pair_is_lem, no_pair}
+use Rattle.reading.specs.Seen.{one, one_of, pair, pair_of, pair_is, no_pair}
 use Rattle.reading.specs.inside.Steps.{scans, fills}
 use Rattle.reading.specs.inside.Tried.{left_tried}
 use Rattle.reading.proofs.StepLaws.{one-some, one_none, pair-some, pair_none, fill_at}
@@ -127,13 +127,13 @@ rep_byte_lem g bs h = go (leb (length bs) 0) refl (eqb (byte bs 0) 0x7f) (eqb (b
 
 -- ---- a destructor
 
-pub dtor_none : (g : ℕ) (bs : List ℕ) → 0 < length bs → byte bs 0 ≡ 0 → pair_is_lem 1 0 0 ≡ pair g field.OptionalIndex bs
+pub dtor_none : (g : ℕ) (bs : List ℕ) → 0 < length bs → byte bs 0 ≡ 0 → pair_is 1 0 0 ≡ pair g field.OptionalIndex bs
 unfolding scan scan_optional_index fill pair_of
 dtor_none g bs h e = simp (lt-leb _ _ h, e)
 
 -- 01, and what is seen behind it: an index, of at most five bytes, or none
 index-behind : (s : List ℕ) (r : Taken) → 0 < (seen r).took
-    → pair_is_lem (1 + (seen r).took) 1 (seen r).value ≡ pair_of (past 1 (numbered s r 2)) (1 ∷ value_in r ∷ [])
+    → pair_is (1 + (seen r).took) 1 (seen r).value ≡ pair_of (past 1 (numbered s r 2)) (1 ∷ value_in r ∷ [])
 unfolding pair_of
 index-behind s (taken.Value n t) h = refl
 index-behind s taken.Cut h = absurd (omega arith)
@@ -147,10 +147,10 @@ none_behind s taken.Cut e h = refl
 none_behind s taken.Bad e h = refl
 
 pub dtor_some : (g : ℕ) (bs : List ℕ) (x : Number) → 0 < length bs → byte bs 0 ≡ 1 → x ≡ seen (take_unsigned (drop 1 bs)) → 0 < x.took
-    → pair_is_lem (1 + x.took) 1 x.value ≡ pair g field.OptionalIndex bs
+    → pair_is (1 + x.took) 1 x.value ≡ pair g field.OptionalIndex bs
 unfolding scan scan_optional_index scan_index fill
 dtor_some g bs x h e s k =
-    ap (λ (y : Number). pair_is_lem (1 + y.took) 1 y.value) s
+    ap (λ (y : Number). pair_is (1 + y.took) 1 y.value) s
     ∙ index-behind (drop 1 bs) (take_unsigned (drop 1 bs)) (subst (λ (y : Number). 0 < y.took) s k) ∙ simp (lt-leb _ _ h, e)
 
 pub dtor_wrong : (g : ℕ) (bs : List ℕ) (x : Number) → 0 < length bs → byte bs 0 ≡ 1 → x ≡ seen (take_unsigned (drop 1 bs)) → x.took ≤ 0

@@ -25,7 +25,7 @@ use Rattle.fields.specs.Words.{wide}
 use Rattle.reading.specs.Scan.{byte, cut, then_zero, scan_optional, scan}
 use Rattle.fields.specs.Shape.{repeated, widths}
 use Rattle.reading.specs.declared.Pair.{Pair}
-use Rattle.reading.specs.Seen.{pair, pair_of, pair_is_lem}
+use Rattle.reading.specs.Seen.{pair, pair_of, pair_is}
 use Rattle.reading.specs.inside.Steps.{scans, fills, end_of}
 use Rattle.reading.proofs.FillLaws.{Stands, Filling, filling_as, filling_second, filling_next, filling_alone, set-two, set_four, name_words}
 use Rattle.reading.proofs.StepLaws.{Taking, Still, scan-takes, pair-some, fill_at}
@@ -87,11 +87,11 @@ value-paired s e = paired tt tt refl s e
 -- a V that is a short index
 pub short-paired : {g : ℕ} {input : List ℕ} {at : ℕ} {x : Number} → Stands g input field.Value at
     → x ≡ short_signed (take (length input - at) (drop at input)) → 0 < x.took
-    → Paired g input field.Value at (pair_is_lem x.took 1 x.value)
+    → Paired g input field.Value at (pair_is x.took 1 x.value)
 short-paired {g} {input} {at} {x} s e h =
     let part = take (length input - at) (drop at input) in
     let some : 0 < (short_signed part).took = subst (λ (y : Number). 0 < y.took) e h in
-    value-paired s (ap (λ (y : Number). pair_is_lem y.took 1 y.value) e ∙ value-index g part _ _ (short-some part some).0)
+    value-paired s (ap (λ (y : Number). pair_is y.took 1 y.value) e ∙ value-index g part _ _ (short-some part some).0)
 
 -- an O with 00 behind it, whose O is read as v
 pub record Closed (g : ℕ) (input : List ℕ) (at : ℕ) (v : Pair) : Type 0 where

@@ -1,5 +1,5 @@
 -- Bytes written again are put together of bytes written again. Assumes nothing.
-use Rattle.std.proofs.Common.{◌≡◌, ℕ, ◌+◌, ◌≤◌, List, ◌++◌, length, ap, arith, length-append}
+use Rattle.std.proofs.Common.{◌≡◌, ℕ, List, ◌++◌, length, ap, arith, length-append}
 use Rattle.numbers.specs.Again.{Again}
 
 -- the bytes themselves

@@ -1,5 +1,5 @@
 -- Where a name stops is the longest of its beginnings with which some text begins, and no other number is.
-use Rattle.std.proofs.Common.{◌≡◌, ℕ, zero, suc, ◌+◌, ◌^◌, ◌<◌, ◌≤◌, Bool, true, false, cond, ◌&&◌, T, leb, List, [], ◌∷◌, ◌++◌, length, take, sym, refl, ap, ◌∙◌, subst, ⊎_elim, arith, leb→le}
+use Rattle.std.proofs.Common.{◌≡◌, ℕ, zero, suc, ◌<◌, ◌≤◌, Bool, true, false, cond, ◌&&◌, T, leb, List, [], ◌∷◌, ◌++◌, length, take, sym, refl, ap, ◌∙◌, subst, ⊎_elim, arith, leb→le}
 use Rattle.numbers.specs.Beginnings.{LongestBeginning}
 use Rattle.numbers.specs.Bytes.{Bytes}
 use Rattle.numbers.specs.Text.{Range, Row, table, among, first_in, Step, Next, Bad, step, onward, rest, text, goes, stop, spelling_of}

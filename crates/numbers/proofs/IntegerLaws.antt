@@ -1,5 +1,5 @@
 -- The bytes that are put are the core document's, no others of its are fewer, and none that are as many are others.
-use Rattle.std.proofs.Common.{◌≡◌, ℕ, zero, suc, ◌+◌, ◌-◌, ◌*◌, ◌/◌, ◌%◌, ◌^◌, ◌<◌, ◌≤◌, Bool, true, false, ltb, List, [], ◌∷◌, length, sym, refl, ap, ◌∙◌, subst, arith, pow-add, ltb-false, ltb-true}
+use Rattle.std.proofs.Common.{◌≡◌, ℕ, zero, suc, ◌+◌, ◌-◌, ◌*◌, ◌/◌, ◌%◌, ◌^◌, ◌<◌, ◌≤◌, Bool, true, false, ltb, List, ◌∷◌, length, sym, refl, ap, ◌∙◌, subst, arith, pow-add, ltb-false, ltb-true}
 use Rattle.numbers.specs.Again.{Again}
 use Rattle.numbers.specs.Bytes.{Bytes}
 use Rattle.numbers.specs.Integers.{Integer, last, more, Form, u32, s33}
@@ -94,10 +94,10 @@ pub integer-again : {end sign N : ℕ} {bytes : List ℕ} {n : ℕ} → Integer 
 integer-again i k = record { no_more = shortest i k; same = λ e. same_size i k e }
 
 -- it has at most j + 1 bytes
-pub integer-size : (j : ℕ) {end sign N : ℕ} {bytes : List ℕ} {n : ℕ} → N ≡ bits j + sign → sign ≤ 1 → Integer end sign N bytes n → length bytes ≤ suc j
+pub integer-size : {end sign : ℕ} (j : ℕ) {N : ℕ} {bytes : List ℕ} {n : ℕ} → N ≡ bits j + sign → sign ≤ 1 → Integer end sign N bytes n → length bytes ≤ suc j
 integer-size j e s (last l h) = omega arith
 integer-size zero e s (more l h p i) = absurd (omega arith)
-integer-size (suc j) {sign = sign} e s (more {N} l h p i) =
+integer-size {sign = sign} (suc j) e s (more {N} l h p i) =
     let d : N - 7 ≡ bits j + sign = omega arith in
     omega (arith, integer-size j d s i)
 

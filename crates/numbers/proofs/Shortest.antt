@@ -1,5 +1,5 @@
 -- The laws of `specs/Leb.antt` that the proofs of the functions cite. Assumes nothing.
-use Rattle.std.proofs.Common.{◌≡◌, ℕ, zero, suc, ◌+◌, ◌*◌, ◌/◌, ◌%◌, ◌<◌, ◌≤◌, Bool, true, false, cond, ltb, List, [], ◌∷◌, length, refl, ap, arith, ltb-false, ltb-true, le-ltb, lt-ltb}
+use Rattle.std.proofs.Common.{◌≡◌, ℕ, zero, suc, ◌+◌, ◌*◌, ◌/◌, ◌%◌, ◌<◌, ◌≤◌, Bool, true, false, cond, ltb, [], ◌∷◌, length, refl, arith, ltb-false, ltb-true, le-ltb, lt-ltb}
 use Rattle.numbers.specs.Leb.{bytes_of}
 use Rattle.numbers.specs.inside.Over.{over}
 

@@ -1,7 +1,7 @@
 -- Laws of the table, of `rest` and of `goes`: a first byte's row, a byte where some are to follow, and a sequence within a name.
-use Rattle.std.proofs.Common.{◌≡◌, ℕ, zero, suc, ◌+◌, ◌<◌, ◌≤◌, Bool, true, false, cond, ◌&&◌, T, ltb, leb, List, [], ◌∷◌, length, get_or, drop, sym, refl, ◌∙◌, subst, add-one, arith, ltb→lt, leb→le, drop_of_length-le, drop-cons, ltb-false, ltb-true, le-ltb, lt-ltb, le-leb}
+use Rattle.std.proofs.Common.{◌≡◌, ℕ, zero, suc, ◌+◌, ◌<◌, ◌≤◌, Bool, true, false, ◌&&◌, T, ltb, leb, List, [], ◌∷◌, length, get_or, drop, sym, refl, ◌∙◌, subst, add-one, arith, ltb→lt, leb→le, drop_of_length-le, drop-cons, ltb-false, ltb-true, le-ltb, lt-ltb, le-leb}
 use borrow.Author.Tests.{lt-leb}
-use Rattle.numbers.specs.Text.{Range, ◌to◌, Row, row, table, among, first_in, Step, Next, Bad, step, onward, rest, goes}
+use Rattle.numbers.specs.Text.{Range, ◌to◌, Row, row, table, among, first_in, Next, Bad, step, rest, goes}
 use Rattle.numbers.specs.inside.Sequences.{follows, Ends}
 use Rattle.numbers.specs.declared.text.Sequence.{Sequence}
 use Rattle.numbers.specs.declared.text.Sequence.TheVariants.{Whole, Breaks}

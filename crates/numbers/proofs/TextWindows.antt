@@ -2,7 +2,6 @@
 use Rattle.std.proofs.Common.{◌≡◌, ℕ, zero, suc, ◌+◌, ◌-◌, ◌<◌, ◌≤◌, true, ◌⊎◌, List, [], ◌∷◌, length, get_or, drop, refl, ◌∙◌, subst, inl, inr, ⊎_elim, arith}
 use Rattle.numbers.specs.Text.{◌to◌, rest, text}
 use Rattle.numbers.specs.inside.Windows.{Later, First, Known, Placed, Window, Windows, All, Second, Begun, Ended}
-use Rattle.numbers.specs.inside.Sequences.{follows, Ends}
 use Rattle.numbers.specs.declared.text.Sequence.TheVariants.{Whole}
 use Rattle.numbers.proofs.TextChunks.{side}
 use Rattle.numbers.proofs.TextRows.{nth, found, took, whole, began, ended, follow_in}

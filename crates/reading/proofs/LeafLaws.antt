@@ -24,7 +24,7 @@ use Rattle.fields.specs.declared.Refusal.{Refusal}
 use Rattle.fields.specs.declared.Refusal.TheVariants.{Code, Newer}
 use Rattle.reading.specs.Fill.{primitive, fill_name, fill}
 use Rattle.reading.specs.Scan.{byte, scan_name, scan_primitive, scan}
-use Rattle.reading.specs.Seen.{one, pair, one_of, pair_of, pair_is_lem, no_pair}
+use Rattle.reading.specs.Seen.{one, pair, one_of, pair_of, pair_is, no_pair}
 use Rattle.reading.specs.inside.Steps.{is_primitive}
 use Rattle.numbers.proofs.Impossible.{impossible}
 
@@ -88,7 +88,7 @@ module _ (bs : List ℕ) (r : Number) (e : r ≡ seen (take_unsigned bs)) where
 
   -- the name is there, and text
   pub name_fine : 0 < r.took → r.took + r.value ≤ length bs → text (take r.value (drop r.took bs)) ≡ true
-      → pair_is_lem (r.took + r.value) r.took r.value ≡ pair 1 field.Name bs
+      → pair_is (r.took + r.value) r.took r.value ≡ pair 1 field.Name bs
   unfolding pair_of scan scan_name fill fill_name
   name_fine h k x = simp (zero-add, (index_seen h).0, le-leb (r.took + r.value) (length bs) k, x)
 

@@ -24,37 +24,37 @@ use Rattle.fields.specs.declared.Refusal.TheVariants.{Cut, Code, Newer}
 use Rattle.reading.specs.Fill.{fill, fill_value, fill_optional}
 use Rattle.reading.specs.Scan.{scan, scan_value, scan_primitive, scan_optional, scan_result, byte, numbered, past}
 use Rattle.reading.specs.declared.Pair.{Pair}
-use Rattle.reading.specs.Seen.{one, one_of, pair, pair_of, pair_is_lem, no_pair}
+use Rattle.reading.specs.Seen.{one, one_of, pair, pair_of, pair_is, no_pair}
 use Rattle.reading.specs.inside.Steps.{behind_one}
 use Rattle.numbers.proofs.Impossible.{impossible}
 
 -- ---- a V
 
 -- an index of one byte, and a number of many
-value_low : (g : ℕ) (bs : List ℕ) → 0 < length bs → byte bs 0 < 0x40 → pair_is_lem 1 1 (byte bs 0) ≡ pair g field.Value bs
+value_low : (g : ℕ) (bs : List ℕ) → 0 < length bs → byte bs 0 < 0x40 → pair_is 1 1 (byte bs 0) ≡ pair g field.Value bs
 unfolding scan fill scan_value fill_value pair_of
 value_low g bs h k = simp (lt-leb _ _ h, lt-ltb _ _ k)
 
 value-long : (g : ℕ) (bs : List ℕ) (n t : ℕ) → 0 < length bs → 0x80 ≤ byte bs 0 → take_signed bs ≡ taken.Value n t
-    → pair_is_lem t 1 n ≡ pair g field.Value bs
+    → pair_is t 1 n ≡ pair g field.Value bs
 unfolding scan fill scan_value fill_value pair_of
 value-long g bs n t h k e =
     let over : 0x40 ≤ byte bs 0 = omega (arith, k) in
     simp (lt-leb _ _ h, le-ltb (byte bs 0) 0x40 over, le-ltb (byte bs 0) 0x80 k, e)
 
 -- where a number is taken, the V is the index
-pub value-index : (g : ℕ) (bs : List ℕ) (n t : ℕ) → take_signed bs ≡ taken.Value n t → pair_is_lem t 1 n ≡ pair g field.Value bs
+pub value-index : (g : ℕ) (bs : List ℕ) (n t : ℕ) → take_signed bs ≡ taken.Value n t → pair_is t 1 n ≡ pair g field.Value bs
 value-index g bs n t e = go (ltb (byte bs 0) 0x40) refl (ltb (byte bs 0) 0x80) refl
   where
     some : 0 < length bs
     some = omega (arith, taken-inside s33 bs n t e)
 
-    go : (p : Bool) → ltb (byte bs 0) 0x40 ≡ p → (q : Bool) → ltb (byte bs 0) 0x80 ≡ q → pair_is_lem t 1 n ≡ pair g field.Value bs
+    go : (p : Bool) → ltb (byte bs 0) 0x40 ≡ p → (q : Bool) → ltb (byte bs 0) 0x80 ≡ q → pair_is t 1 n ≡ pair g field.Value bs
     go true p q r =
         let low : byte bs 0 < 0x40 = ltb-true (byte bs 0) 0x40 p in
         let same : number n t ≡ number (byte bs 0) 1 =
         sym (seen_value (take_signed bs) n t e) ∙ seen_value (take_signed bs) (byte bs 0) 1 (take-low s33 bs some low) in
-        ap (λ (x : Number). pair_is_lem x.took 1 x.value) same ∙ value_low g bs some low
+        ap (λ (x : Number). pair_is x.took 1 x.value) same ∙ value_low g bs some low
     go false p true r =
         let no : taken.Value n t ≡ taken.Bad = sym e ∙ take_past s33 bs (ltb-false (byte bs 0) 0x40 p) (ltb-true (byte bs 0) 0x80 r) in
         impossible cc
@@ -62,13 +62,13 @@ value-index g bs n t e = go (ltb (byte bs 0) 0x40) refl (ltb (byte bs 0) 0x80) r
 
 -- no byte
 value_empty : (g : ℕ) (bs : List ℕ) → length bs ≤ 0
-    → pair_is_lem (one g field.Primitive bs).took 0 (one g field.Primitive bs).value ≡ pair g field.Value bs
+    → pair_is (one g field.Primitive bs).took 0 (one g field.Primitive bs).value ≡ pair g field.Value bs
 unfolding scan fill scan_value pair_of one_of
 value_empty g bs h = simp (le-leb _ _ h)
 
 -- a primitive of one word, and of two
 primitive-two : (g b x : ℕ)
-    → pair_is_lem (one_of (scan_primitive g b (Fine 1 1)) (x ∷ [])).took 0 (one_of (scan_primitive g b (Fine 1 1)) (x ∷ [])).value
+    → pair_is (one_of (scan_primitive g b (Fine 1 1)) (x ∷ [])).took 0 (one_of (scan_primitive g b (Fine 1 1)) (x ∷ [])).value
     ≡ pair_of (scan_primitive g b (Fine 1 2)) (0 ∷ x ∷ [])
 unfolding scan_primitive one_of pair_of
 primitive-two g b x = go (eqb b 0x64) (ltb g 2) (ltb b 0x73) (ltb b 0x80)
@@ -77,7 +77,7 @@ primitive-two g b x = go (eqb b 0x64) (ltb g 2) (ltb b 0x73) (ltb b 0x80)
     at p q r s m = cond p (cond q (Bad Newer 0) (Fine 1 m)) (cond r (Bad Code 0) (cond s (Fine 1 m) (Bad Code 0)))
 
     go : (p q r s : Bool)
-        → pair_is_lem (one_of (at p q r s 1) (x ∷ [])).took 0 (one_of (at p q r s 1) (x ∷ [])).value ≡ pair_of (at p q r s 2) (0 ∷ x ∷ [])
+        → pair_is (one_of (at p q r s 1) (x ∷ [])).took 0 (one_of (at p q r s 1) (x ∷ [])).value ≡ pair_of (at p q r s 2) (0 ∷ x ∷ [])
     go true true r s = refl
     go true false r s = refl
     go false q true s = refl
@@ -86,7 +86,7 @@ primitive-two g b x = go (eqb b 0x64) (ltb g 2) (ltb b 0x73) (ltb b 0x80)
 
 -- a byte that another does not follow, and is no index
 value_middle : (g : ℕ) (bs : List ℕ) → 0 < length bs → 0x40 ≤ byte bs 0 → byte bs 0 < 0x80
-    → pair_is_lem (one g field.Primitive bs).took 0 (one g field.Primitive bs).value ≡ pair g field.Value bs
+    → pair_is (one g field.Primitive bs).took 0 (one g field.Primitive bs).value ≡ pair g field.Value bs
 unfolding scan fill scan_value fill_value
 value_middle g bs h k l = simp (lt-leb _ _ h, le-ltb (byte bs 0) 0x40 k, lt-ltb (byte bs 0) 0x80 l) (primitive-two g (byte bs 0) _)
 
@@ -98,7 +98,7 @@ value_none bs taken.Cut none ws = refl
 value_none bs taken.Bad none ws = refl
 
 value_high : (g : ℕ) (bs : List ℕ) → 0 < length bs → 0x80 ≤ byte bs 0 → ((n t : ℕ) → take_signed bs ≡ taken.Value n t → ⊥)
-    → pair_is_lem (one g field.Primitive bs).took 0 (one g field.Primitive bs).value ≡ pair g field.Value bs
+    → pair_is (one g field.Primitive bs).took 0 (one g field.Primitive bs).value ≡ pair g field.Value bs
 unfolding scan fill scan_value scan_primitive one_of
 value_high g bs h k none =
     let b = byte bs 0 in
@@ -110,11 +110,11 @@ value_high g bs h k none =
 
 -- where no number is taken, the V is a primitive
 pub value-other : (g : ℕ) (bs : List ℕ) → ((n t : ℕ) → take_signed bs ≡ taken.Value n t → ⊥)
-    → pair_is_lem (one g field.Primitive bs).took 0 (one g field.Primitive bs).value ≡ pair g field.Value bs
+    → pair_is (one g field.Primitive bs).took 0 (one g field.Primitive bs).value ≡ pair g field.Value bs
 value-other g bs none = go (leb (length bs) 0) refl (ltb (byte bs 0) 0x40) refl (ltb (byte bs 0) 0x80) refl
   where
     go : (o : Bool) → leb (length bs) 0 ≡ o → (p : Bool) → ltb (byte bs 0) 0x40 ≡ p → (q : Bool) → ltb (byte bs 0) 0x80 ≡ q
-        → pair_is_lem (one g field.Primitive bs).took 0 (one g field.Primitive bs).value ≡ pair g field.Value bs
+        → pair_is (one g field.Primitive bs).took 0 (one g field.Primitive bs).value ≡ pair g field.Value bs
     go true o p ep q eq = value_empty g bs (leb-true (length bs) 0 o)
     go false o true ep q eq = absurd (none _ _ (take-low s33 bs (leb-false (length bs) 0 o) (ltb-true (byte bs 0) 0x40 ep)))
     go false o false ep true eq =
@@ -123,16 +123,16 @@ value-other g bs none = go (leb (length bs) 0) refl (ltb (byte bs 0) 0x40) refl 
 
 -- the same by what is seen: a number is the index, and where none is seen, a primitive is the V
 pub seen-index :
-    (g : ℕ) (bs : List ℕ) (x : Number) → x ≡ seen (take_signed bs) → 0 < x.took → pair_is_lem x.took 1 x.value ≡ pair g field.Value bs
+    (g : ℕ) (bs : List ℕ) (x : Number) → x ≡ seen (take_signed bs) → 0 < x.took → pair_is x.took 1 x.value ≡ pair g field.Value bs
 seen-index g bs x e h =
-    ap (λ (y : Number). pair_is_lem y.took 1 y.value) e
+    ap (λ (y : Number). pair_is y.took 1 y.value) e
     ∙ value-index g bs _ _ (seen-taken (take_signed bs) (subst (λ (y : Number). 0 < y.took) e h))
 
 pub seen_other : (g : ℕ) (bs : List ℕ) (x y : Number) → x ≡ seen (take_signed bs) → x.took ≤ 0 → y ≡ one g field.Primitive bs
-    → pair_is_lem y.took 0 y.value ≡ pair g field.Value bs
+    → pair_is y.took 0 y.value ≡ pair g field.Value bs
 seen_other g bs x y e h p =
     let zero : (seen (take_signed bs)).took ≡ 0 = sym (ap (λ (z : Number). z.took) e) ∙ omega (arith, h) in
-    ap (λ (z : Number). pair_is_lem z.took 0 z.value) p ∙ value-other g bs (seen_none s33 bs zero)
+    ap (λ (z : Number). pair_is z.took 0 z.value) p ∙ value-other g bs (seen_none s33 bs zero)
 
 -- ---- behind a byte
 
@@ -199,7 +199,7 @@ pub optional_some : (g : ℕ) (bs : List ℕ) → 0 < length bs → byte bs 0 �
 unfolding scan fill scan_optional fill_optional
 optional_some g bs h e = value-behind g (drop 1 bs) ∙ simp (lt-leb _ _ h, e)
 
-pub optional_none : (g : ℕ) (bs : List ℕ) → 0 < length bs → byte bs 0 ≡ 0 → pair_is_lem 1 2 0 ≡ pair g field.Optional bs
+pub optional_none : (g : ℕ) (bs : List ℕ) → 0 < length bs → byte bs 0 ≡ 0 → pair_is 1 2 0 ≡ pair g field.Optional bs
 unfolding scan fill scan_optional fill_optional pair_of
 optional_none g bs h e = simp (lt-leb _ _ h, e)
 
@@ -228,7 +228,7 @@ result_some g bs h e =
     let there : 0 < length bs = omega (arith, h) in
     value-behind g (drop 1 bs) ∙ simp (lt-leb _ _ there, e)
 
-pub result_none : (g : ℕ) (bs : List ℕ) → 1 < length bs → byte bs 0 ≡ 1 → byte bs 1 ≡ 0 → pair_is_lem 2 2 0 ≡ pair g field.Result bs
+pub result_none : (g : ℕ) (bs : List ℕ) → 1 < length bs → byte bs 0 ≡ 1 → byte bs 1 ≡ 0 → pair_is 2 2 0 ≡ pair g field.Result bs
 unfolding scan fill scan_result fill_optional pair_of
 result_none g bs h e z =
     let there : 0 < length bs = omega (arith, h) in

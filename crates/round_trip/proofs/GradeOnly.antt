@@ -1,5 +1,5 @@
 -- What is read of a field at a grade has no byte above it, and its words are words of 32 bits.
-use Prim.Native.Nat.{ℕ, zero, suc, ◌+◌, ◌-◌, ◌^◌, ◌≤◌, ◌<◌}
+use Prim.Native.Nat.{ℕ, zero, suc, ◌-◌, ◌^◌, ◌≤◌, ◌<◌}
 use native.Mathlib.Omega.{arith}
 use mathlib.Core.Path.{◌≡◌, refl}
 use mathlib.Core.Bool.{Bool, true, false, cond}
@@ -16,7 +16,7 @@ use Rattle.reading.specs.Fill.{value_in, primitive, fill_value, fill_optional, f
 use Rattle.fields.specs.Grades.{grade_of}
 use Rattle.fields.specs.declared.Site.TheVariants.{CanonOption}
 use Rattle.reading.specs.Scan.{byte, chosen, scan_choice, asked, past, numbered, zero_at, then_zero, three, scan_primitive, scan_value, scan_optional, scan_result, scan_either, scan_module, scan_bound, scan_index, scan_reference}
-use Rattle.round_trip.specs.Mark.{Mark, Clear, At, asks, primitive_grade, value_mark}
+use Rattle.round_trip.specs.Mark.{Clear, At, asks, primitive_grade, value_mark}
 use Rattle.round_trip.proofs.ExternBack as extern
 use Rattle.round_trip.proofs.ExternBack.{NameRight, Slot}
 use Rattle.round_trip.proofs.FieldBack.{Valued, primed, typed, Optioned, none, some, Bit, off, on, Primed, old, new, Present, absent, present, Chosen, with, bare, Referred, core, valued, equal, fresh, other}

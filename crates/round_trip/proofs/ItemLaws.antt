@@ -22,7 +22,7 @@ use Rattle.fields.specs.Words.{word, Words, wide}
 use Rattle.writing.specs.Binary.{bytes}
 use Rattle.writing.specs.Judge.{flaw, unless, judge}
 use Rattle.round_trip.specs.Padded.{Padded}
-use Rattle.round_trip.proofs.PaddedLaws.{padded_by, padded-again}
+use Rattle.round_trip.proofs.PaddedLaws.{padded_by}
 use Rattle.round_trip.specs.Mark.{Mark, Clear, At, first_mark, row_mark, SameFields, SameItem}
 use Rattle.round_trip.specs.inside.Width.{plan_width}
 use Rattle.fields.specs.Answers.{left_row}

@@ -21,7 +21,7 @@ use Rattle.fields.specs.Walk.{Plan, end, step, Side, next, took, walk, outs}
 use Rattle.writing.specs.Write.{writer}
 use Rattle.round_trip.specs.Padded.{Padded}
 use Rattle.round_trip.proofs.PaddedLaws.{padded-same, padded_by, padded_both}
-use Rattle.round_trip.specs.Mark.{Mark, Clear, mark, ahead, first_mark, SameFields}
+use Rattle.round_trip.specs.Mark.{Clear, mark, ahead, first_mark, SameFields}
 use Rattle.round_trip.proofs.GradeOnly.{no_words, words_and}
 use Rattle.round_trip.proofs.SameBytes.{field_same}
 use Rattle.numbers.proofs.Impossible.{impossible}

@@ -4,9 +4,7 @@ use Prim.Native.Nat.{ℕ, ◌+◌, ◌-◌, ◌≤◌, ◌<◌}
 use native.Mathlib.Omega.{arith}
 use mathlib.Core.Path.{◌≡◌, refl, sym, ap, subst, ◌∙◌}
 use mathlib.Core.List.{List, ◌++◌}
-use mathlib.Core.Bool.{Bool, true, false, cond}
 use borrow.Author.Tests.{lt-ltb, le-ltb, le-leb, lt-leb}
-use lib.Dec.{leb}
 use lib.ListN.{length, set, length-append, length-set}
 use lib.Seq.{sets}
 use Rattle.numbers.specs.Bytes as bytes
@@ -14,7 +12,6 @@ use Rattle.numbers.specs.Bytes.{Left, store}
 use Rattle.numbers.specs.Leb.{unsigned}
 use Rattle.numbers.specs.Numbers.{value_of}
 use Rattle.numbers.specs.declared.bytes.Stored.{Stored}
-use Rattle.numbers.specs.declared.bytes.Stored.TheVariants as kept
 use Rattle.numbers.proofs.BytesLaws.{store-either, size-value, room-value}
 use Rattle.numbers.proofs.LebLaws.{size_bounds}
 use Rattle.fields.specs.declared.Answer.TheVariants.{Size}

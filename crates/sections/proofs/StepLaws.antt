@@ -2,9 +2,9 @@
 use Prim.Native.Nat.{ℕ, ◌+◌, ◌^◌, ◌≤◌, ◌<◌}
 use native.Mathlib.Omega.{arith}
 use mathlib.Core.Path.{◌≡◌, refl, sym, ap, subst, ◌∙◌}
-use mathlib.Core.Bool.{Bool, true, false, not, cond}
+use mathlib.Core.Bool.{Bool, true, false, cond}
 use mathlib.Core.List.{List}
-use borrow.Author.Tests.{ltb-true, ltb-false, leb-true, eqb-true, not_true, not-false}
+use borrow.Author.Tests.{ltb-true, ltb-false, leb-true, eqb-true}
 use lib.Dec.{eqb, ltb, leb}
 use lib.ListN.{length}
 use lib.Seq.{sets}
@@ -27,12 +27,12 @@ use Rattle.numbers.proofs.Impossible.{impossible}
 
 -- ---- tests
 
--- a test s, whose result t was tried as `!t`
-pub failed : {t s : Bool} → t ≡ s → not t ≡ true → s ≡ false
-failed {t} e n = sym e ∙ not_true t n
+-- a test s, whose result is t
+pub failed : {t s : Bool} → t ≡ s → t ≡ false → s ≡ false
+failed e n = sym e ∙ n
 
-pub passed : {t s : Bool} → t ≡ s → not t ≡ false → s ≡ true
-passed {t} e n = sym e ∙ not-false t n
+pub passed : {t s : Bool} → t ≡ s → t ≡ true → s ≡ true
+passed e n = sym e ∙ n
 
 -- ---- a sound state
 

@@ -41,12 +41,12 @@ head_width : (pool words : List ℕ) (size : ℕ) → Sized head_shape words 0 p
 unfolding row_width widths wide
 head_width pool words size k = omega (arith, k.width)
 
-head_bytes : (pool words : List ℕ) (size : ℕ) → Sized head_shape words 0 pool size
+head_bytes_lem : (pool words : List ℕ) (size : ℕ) → Sized head_shape words 0 pool size
     → written head_shape pool words 0 ≡ functype (word words 0) ∷ vec 4 (labelvaltype pool) (drop 1 words)
 unfolding strings widths wide bytes
-head_bytes pool [] size k = absurd (omega (arith, head_width pool [] size k))
-head_bytes pool (a ∷ []) size k = absurd (omega (arith, head_width pool (a ∷ []) size k))
-head_bytes pool (a ∷ n ∷ words) size k =
+head_bytes_lem pool [] size k = absurd (omega (arith, head_width pool [] size k))
+head_bytes_lem pool (a ∷ []) size k = absurd (omega (arith, head_width pool (a ∷ []) size k))
+head_bytes_lem pool (a ∷ n ∷ words) size k =
     written-right head_shape pool (a ∷ n ∷ words) 0 k.end size k.judges
     ∙ ap (λ l. functype a ∷ (unsigned n ++ l))
     (only-groups pool (field.Name ∷ field.Value ∷ []) (labelvaltype pool) (labelled_element pool) n words)
@@ -138,5 +138,5 @@ module _ (s : Section) (words pool : List ℕ) (tag x : ℕ) (body : List ℕ) w
       let h = accepted_grows head k.1.0 in
       let result = result_turns u.gave.section u.body h.stands tag x in
       let counts = h.counts ∙ g.counts in
-      let steps = rw (head_bytes pool words _ sized, result_bytes tag x, counts) at (grows_then g (grows_then h (accepted_grows result k.1.1.0))) in
+      let steps = rw (head_bytes_lem pool words _ sized, result_bytes tag x, counts) at (grows_then g (grows_then h (accepted_grows result k.1.1.0))) in
       both_grow f steps (row_grows f (head_width pool words _ sized) row.0)

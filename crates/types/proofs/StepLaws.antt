@@ -47,7 +47,7 @@ use Rattle.writing.proofs.RowLaws.{nothing_at, async_at, bare_known, many_known,
 use Rattle.types.specs.inside.Optional.{OptionalKnown}
 use Rattle.types.specs.Table.{labelvaltype}
 use Rattle.types.specs.Write.{head_shape, result_shape}
-use Rattle.types.specs.inside.Function.{head_bytes_lem}
+use Rattle.types.specs.inside.Function.{head_bytes}
 use Rattle.types.proofs.FunctionLaws.{result_length, known_result}
 use Rattle.numbers.proofs.Impossible.{impossible}
 
@@ -164,9 +164,9 @@ module _ (s : Shape) (pool words : List ℕ) where
 pub record HeadHeld (words pool : List ℕ) (n : ℕ) : Type 0 where
   pub width : length words ≡ 2 + word words 1 * 4
   pub groups : Rights pool (repeated (word words 1) (field.Name ∷ field.Value ∷ [])) (drop 2 words)
-  pub size : n ≡ length (head_bytes_lem pool words)
+  pub size : n ≡ length (head_bytes pool words)
   pub some : 0 < n
-  pub made : written head_shape pool words 0 ≡ head_bytes_lem pool words
+  pub made : written head_shape pool words 0 ≡ head_bytes pool words
 
 module _ (words pool : List ℕ) where
   pub head_known : length pool ≤ 65536 → length words ≤ 16384 → length words ≡ 2 + word words 1 * 4 → word words 0 < 2
@@ -205,14 +205,14 @@ module _ (words pool : List ℕ) where
           many_held field.Nothing field.Nothing field.Async field.Name field.Value field.Nothing refl refl refl (0 ∷ words) pool
           (λ ws. labelled_element pool ws) row.0
 
-      made : written head_shape pool words 0 ≡ head_bytes_lem pool words
+      made : written head_shape pool words 0 ≡ head_bytes pool words
       made =
           row.1 ∙ h.made
           ∙ ap (λ l. functype (word words 0) ∷ (unsigned (word words 1) ++ l))
           (append-nil (elements (word words 1) 4 (labelvaltype pool) (drop 2 words)))
 
 -- its parts put one after the other
-module _ (words pool old : List ℕ) (at : ℕ) (room : at + length (head_bytes_lem pool words) ≤ length old) where
+module _ (words pool old : List ℕ) (at : ℕ) (room : at + length (head_bytes pool words) ≤ length old) where
   abbrev U : List ℕ
   U = unsigned (word words 1)
 
@@ -238,7 +238,7 @@ module _ (words pool old : List ℕ) (at : ℕ) (room : at + length (head_bytes_
       count_ends = omega (arith, fields_room, same_size lead, same_size count)
 
       pub head_wrote : {three : List ℕ} {end : ℕ} → Wrote two next (elements (word words 1) 4 (labelvaltype pool) (drop 2 words)) end three
-          → three ≡ sets old at (head_bytes_lem pool words)
+          → three ≡ sets old at (head_bytes pool words)
       head_wrote w = (then lead (then count w)).content
 
       pub head_length : {three : List ℕ} {end : ℕ} → Wrote two next (elements (word words 1) 4 (labelvaltype pool) (drop 2 words)) end three

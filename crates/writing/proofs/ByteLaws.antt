@@ -1,11 +1,11 @@
 -- The bytes of a field that is right are bytes: below 256.
-use Prim.Native.Nat.{ℕ, zero, suc, ◌+◌, ◌-◌, ◌^◌, ◌≤◌, ◌<◌}
+use Prim.Native.Nat.{ℕ, zero, suc, ◌+◌, ◌^◌, ◌≤◌, ◌<◌}
 use native.Mathlib.Omega.{arith}
-use mathlib.Core.Path.{◌≡◌, refl, sym, ap, ◌∙◌, subst}
+use mathlib.Core.Path.{◌≡◌}
 use mathlib.Core.Bool.{Bool, true, false, cond}
 use mathlib.Core.List.{List, [], ◌∷◌, ◌++◌}
 use lib.Dec.{eqb}
-use lib.ListN.{length, get_or, take, drop}
+use lib.ListN.{take, drop}
 use lib.Seq.{get_or-drop}
 use Rattle.numbers.specs.Bytes.{Bytes}
 use Rattle.numbers.specs.Integers.{u32, s33}
@@ -14,7 +14,7 @@ use Rattle.numbers.proofs.LebLaws.{put-bytes}
 use Rattle.fields.specs.declared.Field.{Field}
 use Rattle.fields.specs.declared.Field.TheVariants as field
 use Rattle.fields.specs.declared.Flaw.TheVariants.{Right}
-use Rattle.fields.specs.Words.{word, Words, chars, indexed}
+use Rattle.fields.specs.Words.{word, Words, indexed}
 use Rattle.writing.specs.Binary.{name, primvaltype, valtype, optional, resultlist, functype, flag, representation, destructor, canonopt, slot_at, slots_at, slots, externname, typebound, externdesc, bytes, argument, coresortidx, sortidx}
 use Rattle.writing.specs.Judge.{flaw}
 use Rattle.writing.proofs.FlawLaws.{choice-below, reference-below, below_is}

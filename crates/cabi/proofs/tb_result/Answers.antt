@@ -1,0 +1,11 @@
+-- `cabi::tb_result` meets its contract: a state takes `Section::result` (`step-taken`), and other numbers are refused (`step-refused`).
+use Rattle.cabi.proofs.CallLaws.{step-taken, step-refused}
+use Rattle.cabi.proofs.tb_result.Goals as goal
+
+pub returns-in-Is : goal.returns-in-Is
+returns-in-Is c =
+    step-taken _ _ _ c.take_state.ensures c.in-Is.is c.result.ensures c.settle.ensures
+
+pub returns-in-Not : goal.returns-in-Not
+returns-in-Not c =
+    step-refused _ c.take_state.ensures c.in-Not.is c.refuse.ensures

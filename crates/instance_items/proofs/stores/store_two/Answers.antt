@@ -1,0 +1,34 @@
+-- `store_two` meets its contract: a word of an argument (`argument_words`), or the two of a sort and an index (`pair-words`).
+use Prim.Native.Nat.{ℕ}
+use native.Mathlib.Omega.{arith}
+use mathlib.Core.Path.{ap, ◌∙◌}
+use mathlib.Core.List.{List}
+use lib.ListN.{length-set}
+use lib.Seq.{sets}
+use Rattle.reading.proofs.FillLaws.{set-two}
+use Rattle.instance_items.proofs.FieldLaws.{two-wide-some, two-wide-pair, pair-took, argument_words, pair-words}
+use Rattle.instance_items.specs.inside.Group.{group_two}
+use Rattle.instance_items.proofs.stores.store_two.Goals as goal
+
+pub bounds-row-to : goal.bounds-row-to
+bounds-row-to c = let w = two-wide-some c.args.kind in omega (arith, w, c.requires.kind_in_bounds)
+
+pub returns-then-kind-eq18 : goal.returns-then-kind-eq18
+returns-then-kind-eq18 c =
+    let a = c.args in
+    let is = c.second-two.ensures 1 in (
+      pair-took 1 (group_two a.kind) a.bs.now is,
+      ap (λ (l : List ℕ). sets a.row.now a.to l) (argument_words a.kind a.bs.now c.if-kind-eq18.true is c.requires.nonzero),
+    )
+
+pub bounds-row-to-2 : goal.bounds-row-to-2
+bounds-row-to-2 c = let w = two-wide-pair c.args.kind c.if-kind-eq18.false in simp length-set (omega (arith, w, c.requires.kind_in_bounds))
+
+pub returns : goal.returns
+returns c =
+    let a = c.args in
+    let is = c.second-two.ensures 1 in (
+      pair-took 1 (group_two a.kind) a.bs.now is,
+      set-two a.row.now a.to _ _
+          ∙ ap (λ (l : List ℕ). sets a.row.now a.to l) (pair-words a.kind a.bs.now c.if-kind-eq18.false is c.requires.nonzero),
+    )

@@ -1,0 +1,11 @@
+-- `numbers::text::ascii` meets its contract. The loop's invariant: the bytes before `i` are below 128. `below_join` adds a chunk,
+-- and `below_all` the last chunk, which may overlap.
+use Rattle.std.proofs.Common.{◌-◌, ◌≤◌}
+use Rattle.numbers.specs.inside.Below.{Below}
+use Rattle.numbers.proofs.text.ascii.Given as goal
+
+abbrev pub invariant-loop-i : goal.invariant-loop-i
+invariant-loop-i l = (l.i ≤ l.len) × Below 0x80 l.s 0 l.i
+
+abbrev pub decreases-loop-i : goal.decreases-loop-i
+decreases-loop-i l = l.len - l.i

@@ -1,0 +1,50 @@
+-- `reading::item::item_refusal` meets its contract: its tests are those of `scanned_item`, in their order, and past them an item is what
+-- its shape says (`scanned-item`).
+use mathlib.Core.Path.{◌≡◌}
+use borrow.Author.Tests.{lt-ltb, le-ltb, eq-eqb}
+use Rattle.reading.specs.Read.{scanned_found, scanned_item}
+use Rattle.reading.proofs.ScannedLaws.{scanned-item}
+use Rattle.reading.proofs.item.item_refusal.Goals as goal
+use Rattle.reading.proofs.item.item_refusal.Goals.{Else-input-eq0}
+
+-- past the tests
+passed : (k : Else-input-eq0)
+    → let a = k.args in
+    scanned_item a.found a.lead a.grade a.input.now ≡ scanned_found a.found a.lead a.grade a.input.now
+passed k =
+    let a = k.args in
+    scanned-item a.found a.lead a.grade a.input.now k.if-input-gt-INPUT_BYTES.false k.if-grade-lt1.false
+    k.if-grade-gt3.false k.if-input-eq0.false
+
+pub returns-then-input-gt-INPUT_BYTES : goal.returns-then-input-gt-INPUT_BYTES
+unfolding scanned_item
+returns-then-input-gt-INPUT_BYTES c = simp (lt-ltb _ _ c.if-input-gt-INPUT_BYTES.true)
+
+pub returns-then-grade-lt1 : goal.returns-then-grade-lt1
+unfolding scanned_item
+returns-then-grade-lt1 c = simp (le-ltb _ _ c.if-input-gt-INPUT_BYTES.false, lt-ltb _ _ c.if-grade-lt1.true)
+
+pub returns-then-grade-gt3 : goal.returns-then-grade-gt3
+unfolding scanned_item
+returns-then-grade-gt3 c = simp (le-ltb _ _ c.if-input-gt-INPUT_BYTES.false, le-ltb _ _ c.if-grade-lt1.false, lt-ltb _ _ c.if-grade-gt3.true)
+
+pub returns-then-input-eq0 : goal.returns-then-input-eq0
+unfolding scanned_item
+returns-then-input-eq0 c =
+    simp (
+      le-ltb _ _ c.if-input-gt-INPUT_BYTES.false,
+      le-ltb _ _ c.if-grade-lt1.false,
+      le-ltb _ _ c.if-grade-gt3.false,
+      eq-eqb _ _ c.if-input-eq0.true,
+    )
+
+pub returns-in-Fine : goal.returns-in-Fine
+returns-in-Fine c =
+    rw (passed (goal.at.returns-in-Fine c).Else-input-eq0, c.in-Is.is, ← c.scan_shape.ensures, c.in-Fine.is)
+
+pub returns-in-Bad : goal.returns-in-Bad
+returns-in-Bad c =
+    rw (passed (goal.at.returns-in-Bad c).Else-input-eq0, c.in-Is.is, ← c.scan_shape.ensures, c.in-Bad.is)
+
+pub returns-in-Not : goal.returns-in-Not
+returns-in-Not c = rw (passed (goal.at.returns-in-Not c).Else-input-eq0, c.in-Not.is)

@@ -1,0 +1,7 @@
+-- `reading::scan::byte_at` meets its contract: below the length the byte is read, and past the end it is the default, 0.
+use mathlib.Core.Path.{sym}
+use lib.ListN.{get_or-eq_default}
+use Rattle.reading.proofs.scan.byte_at.Goals as goal
+
+pub returns : goal.returns
+returns c = sym (get_or-eq_default c.args.bs.now 0 c.if-i-bs.false)

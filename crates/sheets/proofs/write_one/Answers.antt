@@ -1,0 +1,16 @@
+-- `write_one` meets its contract: a row that is taken is written whole.
+use native.Mathlib.Omega.{arith}
+use Rattle.sheets.proofs.SheetLaws.{row_inside, row_wrote, row_never}
+use Rattle.sheets.proofs.write_one.Goals as goal
+
+pub overflow_add-result : goal.overflow_add-result
+overflow_add-result c =
+    omega (arith, row_inside _ _ _ _ _ c.requires c.write_by.ensures c.in-Size.is)
+
+pub returns-in-Size : goal.returns-in-Size
+returns-in-Size c =
+    row_wrote _ _ _ _ _ c.requires c.write_by.ensures c.in-Size.is
+
+pub returns-in-Refused : goal.returns-in-Refused
+returns-in-Refused c =
+    absurd (row_never _ _ _ _ _ c.requires c.write_by.ensures c.in-Refused.is)

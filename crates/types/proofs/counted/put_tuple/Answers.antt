@@ -1,0 +1,43 @@
+-- `put_tuple` meets its contract: its byte, its count and its elements are one run (`counted_front`, `counted_put`).
+use native.Mathlib.Omega.{arith}
+use lib.ListN.{drop}
+use Rattle.fields.specs.Words.{word}
+use Rattle.writing.specs.Binary.{valtype}
+use Rattle.fields.specs.Table.{elements}
+use Rattle.writing.proofs.WroteLaws.{same_size}
+use Rattle.types.proofs.CountedLaws.{counted_front, counted_put}
+use Rattle.types.proofs.counted.put_tuple.Goals as goal
+
+pub overflow_add-next-2 : goal.overflow_add-next-2
+overflow_add-next-2 c =
+    let args = c.args in
+    let row = args.row.now in
+    let n = word row 1 in
+    let front = counted_front 0x6f n (elements n 2 (λ ws. valtype (word ws 0) (word ws 1)) (drop 2 row)) args.out.now args.to
+    c.requires.row_in_bounds c.put_unsigned.ensures c.stored_size.ensures in
+    omega (arith, front.1, same_size front.0)
+
+pub put_values-requires : goal.put_values-requires
+put_values-requires c =
+    let args = c.args in
+    let row = args.row.now in
+    let n = word row 1 in
+    let front = counted_front 0x6f n (elements n 2 (λ ws. valtype (word ws 0) (word ws 1)) (drop 2 row)) args.out.now args.to
+    c.requires.row_in_bounds c.put_unsigned.ensures c.stored_size.ensures in
+    record { n_in_bounds = omega (arith, c.requires.row_len); row_in_bounds = front.1 }
+
+pub shape_of-out : goal.shape_of-out
+shape_of-out c =
+    let args = c.args in
+    let row = args.row.now in
+    let n = word row 1 in
+    same_size (counted_put 0x6f n (elements n 2 (λ ws. valtype (word ws 0) (word ws 1)) (drop 2 row)) args.out.now args.to
+    c.requires.row_in_bounds c.put_unsigned.ensures c.stored_size.ensures c.put_values.ensures)
+
+pub returns : goal.returns
+returns c =
+    let args = c.args in
+    let row = args.row.now in
+    let n = word row 1 in
+    (counted_put 0x6f n (elements n 2 (λ ws. valtype (word ws 0) (word ws 1)) (drop 2 row)) args.out.now args.to
+    c.requires.row_in_bounds c.put_unsigned.ensures c.stored_size.ensures c.put_values.ensures).content

@@ -1,0 +1,14 @@
+-- `measure_result` meets its contract: what straight code sees has its size, and the rest is measured by the shape.
+use mathlib.Core.Path.{sym, ap, ◌∙◌}
+use mathlib.Core.List.{[], ◌∷◌}
+use Rattle.writing.specs.Write.{measured}
+use Rattle.types.proofs.StepLaws.{result_measured}
+use Rattle.types.proofs.steps.measure_result.Goals as goal
+
+pub returns-then-size-gt0 : goal.returns-then-size-gt0
+returns-then-size-gt0 c = sym (result_measured (c.optional_size-size.ensures.optional_known c.if-size-gt0.true))
+
+pub returns : goal.returns
+returns c =
+    let a = c.args in
+    c.measure_shape.ensures ∙ ap (λ s. measured s (a.tag ∷ a.x ∷ []) 0 []) c.result_shape.ensures

@@ -1,0 +1,7 @@
+-- The law is cited with its level and type, so that nothing is counted out.
+use Rattle.std.proofs.Common.{ℕ, sym}
+use lib.ListN.{length-replicate}
+use Rattle.unsheet.proofs.room.Goals as goal
+
+pub returns : goal.returns
+returns c = sym (length-replicate {0} {A = ℕ} 1048577 0)
