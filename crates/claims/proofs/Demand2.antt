@@ -37,7 +37,7 @@ use Rattle.sheets.specs.Frame.{Rows, Are, Broken, listed}
 use Rattle.sheets.specs.Sheet as sheet
 use Rattle.sheets.specs.Sheet.{family_of, tried, tries, joined, of_rows, sheeted}
 use Rattle.sheets.proofs.FamilyLaws.{family-written}
-use Rattle.claims.specs.Valid.{Family, core_instances_lem, instances, types, canonicals, imports, Takes, Valid, production, productions, section, beside, entries}
+use Rattle.claims.specs.Valid.{Family, core_instances, instances, types, canonicals, imports, Takes, Valid, production, productions, section, beside, entries}
 use Rattle.claims.specs.Demand2.{AllValid, AllWords, Made, Demand2}
 use Rattle.claims.proofs.Families.{on_test, on_family}
 use Rattle.claims.proofs.Production.{leb_bytes, family-right, family-production}
@@ -62,7 +62,7 @@ within family row pool size e =
 -- a fresh section stands over any body
 is_known : {family : ℕ} → Family family → known_family family ≡ true
 unfolding known_family
-is_known core_instances_lem = refl
+is_known core_instances = refl
 is_known instances = refl
 is_known types = refl
 is_known canonicals = refl
@@ -201,8 +201,8 @@ unfolding family_of
 every-family kind =
     on_test Family (leb 256 kind) canonicals
     (on_test Family (eqb kind 17) imports
-    (on_test Family (eqb kind 18) core_instances_lem
-    (on_test Family (eqb kind 19) instances (on_test Family (eqb kind 20) core_instances_lem (on_test Family (eqb kind 21) instances types)))))
+    (on_test Family (eqb kind 18) core_instances
+    (on_test Family (eqb kind 19) instances (on_test Family (eqb kind 20) core_instances (on_test Family (eqb kind 21) instances types)))))
 
 -- rows that are taken, behind r others: how many they then are, and that they are valid and make their productions
 record TriedRows (family : ℕ) (pool : List ℕ) (rs : List (List ℕ)) (r last : ℕ) : Type 0 where

@@ -58,7 +58,7 @@ use Rattle.claims.proofs.LiftBack.{lift_limits}
 use Rattle.claims.proofs.InstancesBack.{core_instance-back, core_instance-only, instance_back, instance_only}
 use Rattle.sections.specs.Section.{fresh, entries_of, measured_family, family_bytes, write_family}
 use Rattle.sections.proofs.TurnLaws.{row_turns, accepted_size}
-use Rattle.claims.specs.Valid.{Family, core_instances_lem, instances, types, canonicals, imports, Valid, production}
+use Rattle.claims.specs.Valid.{Family, core_instances, instances, types, canonicals, imports, Valid, production}
 use Rattle.claims.proofs.Production.{family-production}
 use Rattle.claims.proofs.MarkLaws.{table_marks, of_table, row_mark_lem}
 use Rattle.numbers.proofs.Impossible.{impossible}
@@ -110,7 +110,7 @@ sized-back family canonicals row pool fw m p rest room g any top short =
     of_kind 8 row pool _ room _ _ (canonical_back g row pool _ fw m rest _ room (ap (λ bs. bs ++ rest) (sym p)) any top short)
 sized-back family imports row pool fw m p rest room g any top short =
     of_kind 10 row pool _ room _ _ (import-back g row pool _ fw m rest _ room (ap (λ bs. bs ++ rest) (sym p)) any top short)
-sized-back family core_instances_lem row pool fw m p rest room g any top short =
+sized-back family core_instances row pool fw m p rest room g any top short =
     of_kind 2 row pool _ room _ _ (core_instance-back g row pool _ fw m rest _ room (ap (λ bs. bs ++ rest) (sym p)) any top short)
 sized-back family instances row pool fw m p rest room g any top short =
     of_kind 5 row pool _ room _ _ (instance_back g row pool _ fw m rest _ room (ap (λ bs. bs ++ rest) (sym p)) any top short)
@@ -163,7 +163,7 @@ reads-limits family canonicals g input room after q e r = go (eqb (byte input 0)
     go true r = lift_limits g input room after q e r
     go false r = item-limits _ _ _ g input room after q e r
 reads-limits family imports g input room after q e r = item-limits _ _ _ g input room after q e r
-reads-limits family core_instances_lem g input room after q e r = item-limits _ _ _ g input room after q e r
+reads-limits family core_instances g input room after q e r = item-limits _ _ _ g input room after q e r
 reads-limits family instances g input room after q e r = item-limits _ _ _ g input room after q e r
 
 module _ (family : ℕ) (row pool input room after : List ℕ) (q e : ℕ) where
@@ -237,9 +237,9 @@ newer_at family imports row pool fw v g j any m =
     rw (← valid-bytes 10 imports row pool v)
     (row_mark_lem 10 1 g any (importWrite.shape_of (word row 0)) row pool _ (valid_measured 10 imports row pool v)
     (of_table 10 (λ k. 1) importTable.table imports-mark (word row 0)) j m)
-newer_at family core_instances_lem row pool fw v g j any m =
-    rw (← valid-bytes 2 core_instances_lem row pool v)
-    (row_mark_lem 2 1 g any (instanceWrite.core_shape_of (word row 0)) row pool _ (valid_measured 2 core_instances_lem row pool v)
+newer_at family core_instances row pool fw v g j any m =
+    rw (← valid-bytes 2 core_instances row pool v)
+    (row_mark_lem 2 1 g any (instanceWrite.core_shape_of (word row 0)) row pool _ (valid_measured 2 core_instances row pool v)
     (of_table 2 (λ k. 1) instanceTable.core_table core_instances-mark (word row 0)) j m)
 newer_at family instances row pool fw v g j any m =
     rw (← valid-bytes 5 instances row pool v)
@@ -306,7 +306,7 @@ rewritten family imports input room after g words bytes fi any r few =
       writes = λ out at. refl;
       same = by_kind importWrite.shape_of _ g input (take bytes input) (take words after) o;
     }
-rewritten family core_instances_lem input room after g words bytes fi any r few =
+rewritten family core_instances input room after g words bytes fi any r few =
     let o = core_instance-only g input room after words bytes fi any r few in
     record {
       small = o.small;

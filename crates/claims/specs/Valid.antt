@@ -18,7 +18,7 @@ use Rattle.sheets.specs.Frame.{listed}
 
 -- a section's family: core instance 2, instance 5, type 7, canonical 8, import 10
 pub data Family : ℕ → Type 0 where
-  core_instances_lem : Family 2
+  core_instances : Family 2
   instances : Family 5
   types : Family 7
   canonicals : Family 8
