@@ -1,4 +1,6 @@
 -- What a row leaves where the state is ready: the row is written behind the used part, and used and count grow, or the same refusal.
+use Rattle.std.specs.Prelude.{Ok}
+use Rattle.std.specs.Prelude.{Some}
 use Prim.Native.Nat.{ℕ, ◌+◌, ◌<◌, ◌^◌}
 use native.Mathlib.Omega.{arith}
 use mathlib.Core.Path.{◌≡◌, sym, ap, subst, ◌∙◌}
@@ -6,8 +8,8 @@ use mathlib.Core.Bool.{true, false}
 use mathlib.Core.List.{List, [], ◌∷◌}
 use borrow.Author.Tests.{lt-ltb, le-ltb, ne_eqb}
 use lib.ListN.{length, get_or}
-use Rattle.fields.specs.declared.Answer.{Answer}
-use Rattle.fields.specs.declared.Answer.TheVariants.{Size, Refused}
+use Rattle.fields.specs.Answer.{Answer}
+use Rattle.fields.specs.Answer.{Refused}
 use Rattle.fields.specs.declared.Refusal.{Refusal}
 use Rattle.fields.specs.Answers.{left, number_of, value_of, byte_of}
 use Rattle.sections.specs.declared.Phase.TheVariants.{Closed}
@@ -18,7 +20,6 @@ use Rattle.sections.specs.Steps.{wrote, rowing}
 use Rattle.sections.proofs.FamilyLaws.{wrote-limited}
 use Rattle.sections.proofs.StepLaws.{family-small, family-writer, written-fits}
 use Rattle.cabi.specs.declared.Reply.{Reply}
-use Rattle.cabi.specs.declared.Given.TheVariants.{Is}
 use Rattle.cabi.specs.Reply.{reply_of}
 use Rattle.cabi.specs.State.{given, numbers_of, stepped, of_turn, step}
 use Rattle.cabi.specs.inside.Ready.{Ready}
@@ -40,13 +41,13 @@ module _ {state : List ℕ} {n : ℕ} (k : Ready state n) where
   pub ready_small : get_or state 0 0 < 2 ^ 32
   ready_small = omega (arith, family-small (standing state) n ready_sound)
 
-  ready_given : given state ≡ Is (standing state)
+  ready_given : given state ≡ Some (standing state)
   unfolding given
   ready_given = simp (lt-ltb _ _ ready_small, lt-ltb (get_or state 2 0) (2 ^ 32) (omega (arith, k.counts)), k.closed, k.start)
 
 -- what was written lies within the body, so the grown part still has a length
 pub ready-fits : (state row pool body : List ℕ) {a : Answer} {m : ℕ} {new : List ℕ}
-    → left a new ≡ write_family (get_or state 0 0) row pool body (get_or state 1 0) → a ≡ Size m → length body < 2 ^ 64 → get_or state 1 0 + m < 2 ^ 64
+    → left a new ≡ write_family (get_or state 0 0) row pool body (get_or state 1 0) → a ≡ Ok m → length body < 2 ^ 64 → get_or state 1 0 + m < 2 ^ 64
 ready-fits state row pool body e i h = subst (Bounded (standing state)) i (written-fits (family-writer (standing state) row pool body) e h)
 
 -- the step of a ready state is the row as its writer leaves it, which tests for LIMIT too
@@ -63,7 +64,7 @@ module _ {state : List ℕ} (row pool body : List ℕ) (k : Ready state (length 
   ready_step e = simp (ready_given k, ready_row, ← e)
 
   -- used and count grow
-  pub row_written : {a : Answer} {m : ℕ} {new : List ℕ} → left a new ≡ write_family (get_or state 0 0) row pool body (get_or state 1 0) → a ≡ Size m
+  pub row_written : {a : Answer} {m : ℕ} {new : List ℕ} → left a new ≡ write_family (get_or state 0 0) row pool body (get_or state 1 0) → a ≡ Ok m
       → stepped (record { number = 0; also = 0; value = m }) (get_or state 0 0 ∷ (get_or state 1 0 + m) ∷ (get_or state 2 0 + 1) ∷ 0 ∷ 0 ∷ []) new
       ≡ step (given state) (λ s. rowing s row pool body) state body
   unfolding number_of value_of byte_of

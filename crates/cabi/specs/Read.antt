@@ -1,14 +1,14 @@
 -- What a reading leaves, as the C call gives it back.
+use Rattle.std.specs.Prelude.{Err, Ok}
 use Rattle.std.specs.Prelude.{ℕ, List}
-use Rattle.fields.specs.declared.Read.{Read}
-use Rattle.fields.specs.declared.Read.TheVariants.{Item, Refused}
+use Rattle.fields.specs.Read.{Read}
 use Rattle.fields.specs.Answers.{LeftRow, number_of_refusal, byte_of_refusal}
 use Rattle.cabi.specs.declared.Reply.{Reply}
 
 -- words and bytes taken, or the refusal
 abbrev pub reply_of_read : Read → Reply
-reply_of_read (Item words bytes) = record { number = 0; also = words; value = bytes }
-reply_of_read (Refused w n) = record { number = number_of_refusal w; also = byte_of_refusal w; value = n }
+reply_of_read (Ok item) = record { number = 0; also = item.words; value = item.took }
+reply_of_read (Err fault) = record { number = number_of_refusal fault.why; also = byte_of_refusal fault.why; value = fault.value }
 
 pub record Filled : Type 0 where
   pub reply : Reply

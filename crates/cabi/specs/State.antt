@@ -1,4 +1,7 @@
 -- A section's state as five numbers: family, used, count, phase (0 closed, 1 opened, 2 headed), start.
+use Rattle.std.specs.Prelude.{None}
+use Rattle.std.specs.Prelude.{Some}
+use Rattle.std.specs.Prelude.{Option}
 use Rattle.std.specs.Prelude.{ℕ, ◌^◌, cond, List, [], ◌∷◌, eqb, ltb, get_or}
 use Rattle.fields.specs.Answers.{Left}
 use Rattle.sections.specs.declared.Phase.{Phase}
@@ -7,25 +10,23 @@ use Rattle.sections.specs.declared.Section.{Section}
 use Rattle.sections.specs.Steps.{Turn}
 use Rattle.sections.specs.Finish.{finishing}
 use Rattle.cabi.specs.declared.Reply.{Reply}
-use Rattle.cabi.specs.declared.Given.{Given}
-use Rattle.cabi.specs.declared.Given.TheVariants.{Is, Not}
 use Rattle.cabi.specs.Reply.{reply_of, limit}
 
 -- a closed state has start 0; there is no phase above 2
-abbrev pub phase_of : ℕ → ℕ → (Phase → Given) → Given
+abbrev pub phase_of : ℕ → ℕ → (Phase → Option Section) → Option Section
 phase_of phase start k =
-    cond (eqb phase 0) (cond (eqb start 0) (k Closed) Not)
-    (cond (eqb phase 1) (k (Opened start)) (cond (eqb phase 2) (k (Headed start)) Not))
+    cond (eqb phase 0) (cond (eqb start 0) (k Closed) None)
+    (cond (eqb phase 1) (k (Opened start)) (cond (eqb phase 2) (k (Headed start)) None))
 
-abbrev pub section_of : ℕ → ℕ → ℕ → Phase → Given
-section_of family used count phase = Is (record { family = family; used = used; count = count; phase = phase })
+abbrev pub section_of : ℕ → ℕ → ℕ → Phase → Option Section
+section_of family used count phase = Some (record { family = family; used = used; count = count; phase = phase })
 
 -- the state that five numbers are, if family and count fit 32 bits
-unfoldable pub given : List ℕ → Given
+unfoldable pub given : List ℕ → Option Section
 given s =
     cond (ltb (get_or s 0 0) (2 ^ 32))
     (cond (ltb (get_or s 2 0) (2 ^ 32))
-    (phase_of (get_or s 3 0) (get_or s 4 0) (section_of (get_or s 0 0) (get_or s 1 0) (get_or s 2 0))) Not) Not
+    (phase_of (get_or s 3 0) (get_or s 4 0) (section_of (get_or s 0 0) (get_or s 1 0) (get_or s 2 0))) None) None
 
 -- the five numbers of a state
 abbrev pub phase_number : Phase → ℕ
@@ -54,9 +55,9 @@ abbrev pub of_turn : Turn → Stepped
 of_turn t = stepped (reply_of t.gave.answer) (numbers_of t.gave.section) t.body
 
 -- a step of sections over the numbers: what is no state is LIMIT
-abbrev pub step : Given → (Section → Turn) → List ℕ → List ℕ → Stepped
-step (Is s) f state body = of_turn (f s)
-step Not f state body = stepped limit state body
+abbrev pub step : Option Section → (Section → Turn) → List ℕ → List ℕ → Stepped
+step (Some s) f state body = of_turn (f s)
+step None f state body = stepped limit state body
 
 -- what finishing leaves: its reply and the output
 pub record Finished : Type 0 where
@@ -70,6 +71,6 @@ abbrev pub of_left : Left → Finished
 of_left l = finished (reply_of l.answer) l.buffer
 
 -- finishing over the numbers
-abbrev pub finishes : Given → List ℕ → List ℕ → Finished
-finishes (Is s) body out = of_left (finishing s body out)
-finishes Not body out = finished limit out
+abbrev pub finishes : Option Section → List ℕ → List ℕ → Finished
+finishes (Some s) body out = of_left (finishing s body out)
+finishes None body out = finished limit out

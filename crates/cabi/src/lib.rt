@@ -14,7 +14,7 @@ ghost use Rattle.cabi.specs.Sheet.{written, of_sheet};
 ghost use Rattle.cabi.specs.State.{section_of, phase_of, given, phase_number, start_number, numbers_of, stepped, step, finished, finishes};
 ghost use Rattle.cabi.specs.inside.Settled.{Settled};
 
-use fields::{Answer, Read, Refusal};
+use fields::{Answer, Extent, Fault, Read, Refusal};
 use sections::{Phase, Section, Turned};
 
 // What every call gives back.
@@ -29,27 +29,19 @@ pub struct Reply {
     pub value: u64,
 }
 
-// A state that came as five numbers.
-#[derive(Clone, Copy)]
-pub enum Given {
-    Is(Section),
-    // No state has these numbers.
-    Not,
-}
-
 fn reply_to(answer: Answer) -> Reply
     ensures { result ≡ reply_of answer }
 {
     match answer {
-        Answer::Size(n) => Reply {
+        Ok(n) => Reply {
             number: 0,
             also: 0,
             value: n as u64,
         },
-        Answer::Refused(why, n) => Reply {
+        Err(Fault { why, value }) => Reply {
             number: fields::number_of(why),
             also: fields::byte_of(why),
-            value: n as u64,
+            value: value as u64,
         },
     }
 }
@@ -59,15 +51,15 @@ fn reply_to_read(read: Read) -> Reply
     ensures { result ≡ reply_of_read read }
 {
     match read {
-        Read::Item(words, bytes) => Reply {
+        Ok(Extent { words, took: bytes }) => Reply {
             number: 0,
             also: words as u32,
             value: bytes as u64,
         },
-        Read::Refused(why, n) => Reply {
+        Err(Fault { why, value }) => Reply {
             number: fields::number_of(why),
             also: fields::byte_of(why),
-            value: n as u64,
+            value: value as u64,
         },
     }
 }
@@ -76,17 +68,20 @@ fn reply_to_read(read: Read) -> Reply
 fn refuse() -> Reply
     ensures { result ≡ limit }
 {
-    reply_to(Answer::Refused(Refusal::Limit, 0))
+    reply_to(Err(Fault {
+        why: Refusal::Limit,
+        value: 0,
+    }))
 }
 
-fn with_phase(family: u32, used: usize, count: u32, phase: u64, start: usize) -> Given
+fn with_phase(family: u32, used: usize, count: u32, phase: u64, start: usize) -> Option<Section>
     ensures { result ≡ phase_of phase start (section_of family used count) }
 {
     if phase == 0 {
         if start == 0 {
             return in_phase(family, used, count, Phase::Closed);
         }
-        return Given::Not;
+        return None;
     }
     if phase == 1 {
         return in_phase(family, used, count, Phase::Opened(start));
@@ -94,13 +89,13 @@ fn with_phase(family: u32, used: usize, count: u32, phase: u64, start: usize) ->
     if phase == 2 {
         return in_phase(family, used, count, Phase::Headed(start));
     }
-    Given::Not
+    None
 }
 
-fn in_phase(family: u32, used: usize, count: u32, phase: Phase) -> Given
+fn in_phase(family: u32, used: usize, count: u32, phase: Phase) -> Option<Section>
     ensures { result ≡ section_of family used count phase }
 {
-    Given::Is(Section {
+    Some(Section {
         family: family,
         used: used,
         count: count,
@@ -108,8 +103,8 @@ fn in_phase(family: u32, used: usize, count: u32, phase: Phase) -> Given
     })
 }
 
-// The state that five numbers are.
-fn take_state(state: &[u64; 5]) -> Given
+// The state that five numbers are, if there is one.
+fn take_state(state: &[u64; 5]) -> Option<Section>
     ensures { result ≡ given state.now }
 {
     let family = state[0];
@@ -127,9 +122,9 @@ fn take_state(state: &[u64; 5]) -> Given
                 start as usize,
             );
         }
-        return Given::Not;
+        return None;
     }
-    Given::Not
+    None
 }
 
 fn phase_number(phase: Phase) -> u64
@@ -232,8 +227,8 @@ fn row_by_section(state: &mut [u64; 5], row: &[u32], pool: &[u8], body: &mut [u8
     ensures { stepped result state.new body.new ≡ step (given state.old) (λ s. rowing s row.now pool.now body.old) state.old body.old }
 {
     match take_state(state) {
-        Given::Is(s) => settle(s.row(row, pool, body), state),
-        Given::Not => refuse(),
+        Some(s) => settle(s.row(row, pool, body), state),
+        None => refuse(),
     }
 }
 
@@ -246,7 +241,7 @@ fn row_when_ready(state: &mut [u64; 5], row: &[u32], pool: &[u8], body: &mut [u8
     let used = state[1];
     let count = state[2];
     match sections::write_by(family as u32, row, pool, body, used as usize) {
-        Answer::Size(n) => {
+        Ok(n) => {
             let grown = used + n as u64;
             let more = count + 1;
             *state = [family, grown, more, 0, 0];
@@ -256,9 +251,9 @@ fn row_when_ready(state: &mut [u64; 5], row: &[u32], pool: &[u8], body: &mut [u8
                 value: n as u64,
             }
         }
-        Answer::Refused(why, n) => {
+        Err(fault) => {
             *state = [family, used, count, 0, 0];
-            reply_to(Answer::Refused(why, n))
+            reply_to(Err(fault))
         }
     }
 }
@@ -280,8 +275,8 @@ pub extern "C" fn tb_open(state: &mut [u64; 5], body: &mut [u8]) -> Reply
     ensures { stepped result state.new body.new ≡ step (given state.old) (λ s. opening s body.old) state.old body.old }
 {
     match take_state(state) {
-        Given::Is(s) => settle(s.open(body), state),
-        Given::Not => refuse(),
+        Some(s) => settle(s.open(body), state),
+        None => refuse(),
     }
 }
 
@@ -296,8 +291,8 @@ pub extern "C" fn tb_head(
     ensures { stepped result state.new body.new ≡ step (given state.old) (λ s. heading s words.now pool.now body.old) state.old body.old }
 {
     match take_state(state) {
-        Given::Is(s) => settle(s.head(words, pool, body), state),
-        Given::Not => refuse(),
+        Some(s) => settle(s.head(words, pool, body), state),
+        None => refuse(),
     }
 }
 
@@ -307,8 +302,8 @@ pub extern "C" fn tb_result(state: &mut [u64; 5], tag: u32, x: u32, body: &mut [
     ensures { stepped result state.new body.new ≡ step (given state.old) (λ s. resulting s tag x body.old) state.old body.old }
 {
     match take_state(state) {
-        Given::Is(s) => settle(s.result(tag, x, body), state),
-        Given::Not => refuse(),
+        Some(s) => settle(s.result(tag, x, body), state),
+        None => refuse(),
     }
 }
 
@@ -318,8 +313,8 @@ pub extern "C" fn tb_abandon(state: &mut [u64; 5], body: &mut [u8]) -> Reply
     ensures { stepped result state.new body.new ≡ step (given state.old) (λ s. abandoning s body.old) state.old body.old }
 {
     match take_state(state) {
-        Given::Is(s) => settle(s.abandon(body), state),
-        Given::Not => refuse(),
+        Some(s) => settle(s.abandon(body), state),
+        None => refuse(),
     }
 }
 
@@ -329,7 +324,7 @@ pub extern "C" fn tb_finish(state: &[u64; 5], body: &[u8], out: &mut [u8]) -> Re
     ensures { finished result out.new ≡ finishes (given state.now) body.now out.old }
 {
     match take_state(state) {
-        Given::Is(s) => reply_to(s.finish(body, out)),
-        Given::Not => refuse(),
+        Some(s) => reply_to(s.finish(body, out)),
+        None => refuse(),
     }
 }

@@ -1,4 +1,5 @@
 -- The first byte of a canonical and the byte 00 behind it: what stands behind them, for each shape.
+use Rattle.std.specs.Prelude.{Err, Ok, Option, Some, None}
 use Prim.Native.Nat.{ℕ, ◌+◌, ◌≤◌, ◌<◌}
 use native.Mathlib.Omega.{arith}
 use native.Mathlib.Nat.{add-zero}
@@ -11,8 +12,8 @@ use lib.Seq.{drop-drop, get_or-drop}
 use borrow.Author.Tests.{le-ltb, lt-leb, le-leb, leb-true, leb-false, eq-eqb, eqb-true}
 use Rattle.fields.specs.declared.Field.{Field}
 use Rattle.fields.specs.declared.Field.TheVariants as field
-use Rattle.fields.specs.declared.Leaf.{Leaf}
-use Rattle.fields.specs.declared.Leaf.TheVariants.{Fine, Bad}
+use Rattle.fields.specs.Leaf.{Leaf}
+use Rattle.fields.specs.Leaf.{Fine, Bad}
 use Rattle.fields.specs.declared.Refusal.TheVariants as refusal
 use Rattle.fields.specs.declared.Shape.{Shape}
 use Rattle.fields.specs.inside.Run.{along, makes}
@@ -76,23 +77,23 @@ module _ (lead g b : ℕ) (input : List ℕ) (some : 0 < length input) (is : byt
     zero_begun = record { scan_is = zero_scan; fill_is = zero_fill }
 
   -- a byte 00
-  pub begun_zero : {from : ℕ} → from ≡ behind_zero input → (from ≡ 0 → ⊥)
-      → Begun lead g b (field.Fixed 0) input from × (0 < from) × (from ≤ length input)
+  pub begun_zero : {from : ℕ} → Some from ≡ behind_zero input → Begun lead g b (field.Fixed 0) input from × (from ≤ length input)
   unfolding behind_zero has_zero
-  begun_zero {from} e n = go (leb (length input) 1) (eqb (byte input 1) 0) refl refl e
+  begun_zero {from} e = go (leb (length input) 1) (eqb (byte input 1) 0) refl refl e
     where
-      go : (p q : Bool) → leb (length input) 1 ≡ p → eqb (byte input 1) 0 ≡ q → from ≡ cond (cond p false q) 2 0
-          → Begun lead g b (field.Fixed 0) input from × (0 < from) × (from ≤ length input)
-      go true q ep eq e = absurd (n e)
+      go : (p q : Bool) → leb (length input) 1 ≡ p → eqb (byte input 1) 0 ≡ q → Some from ≡ cond (cond p false q) (Some 2) None
+          → Begun lead g b (field.Fixed 0) input from × (from ≤ length input)
+      go true q ep eq e = impossible cc
       go false true ep eq e =
           let there : 1 < length input = leb-false (length input) 1 ep in
-          (subst (λ j. Begun lead g b (field.Fixed 0) input j) (sym e) (zero_begun there (eqb-true _ _ eq)), omega (arith, e), omega (arith, e, there))
-      go false false ep eq e = absurd (n e)
+          let same : from ≡ 2 = cc in
+          (subst (λ j. Begun lead g b (field.Fixed 0) input j) (sym same) (zero_begun there (eqb-true _ _ eq)), omega (arith, same, there))
+      go false false ep eq e = impossible cc
 
   -- a shape with a byte 00 that does not stand there
-  no_zero : {from : ℕ} → from ≡ behind_zero input → from ≡ 0 → Wrong (scan lead g (field.Fixed 0) (drop 1 input))
+  no_zero : None ≡ behind_zero input → Wrong (scan lead g (field.Fixed 0) (drop 1 input))
   unfolding behind_zero has_zero scan
-  no_zero {from} e n = go (leb (length input) 1) (eqb (byte input 1) 0) refl refl (sym n ∙ e)
+  no_zero e = go (leb (length input) 1) (eqb (byte input 1) 0) refl refl e
     where
       size : length (drop 1 input) + 1 ≡ length input
       size = omega (arith, length-drop 1 input, some)
@@ -106,30 +107,29 @@ module _ (lead g b : ℕ) (input : List ℕ) (some : 0 < length input) (is : byt
       short true c ea = tt
       short false c ea = impossible cc
 
-      go : (p q : Bool) → leb (length input) 1 ≡ p → eqb (byte input 1) 0 ≡ q → ◌≡◌ {A = ℕ} 0 (cond (cond p false q) 2 0)
+      go : (p q : Bool) → leb (length input) 1 ≡ p → eqb (byte input 1) 0 ≡ q → ◌≡◌ {A = Option ℕ} None (cond (cond p false q) (Some 2) None)
           → Wrong (scan lead g (field.Fixed 0) (drop 1 input))
       go true q ep eq e =
           let h : length input ≤ 1 = leb-true (length input) 1 ep in
           short (leb (length (drop 1 input)) 0) _ (le-leb (length (drop 1 input)) 0 (omega (arith, h, size)))
-      go false true ep eq e = absurd (omega (arith, e))
+      go false true ep eq e = impossible cc
       go false false ep eq e =
           let h : 1 < length input = leb-false (length input) 1 ep in
           rest (leb (length (drop 1 input)) 0) (eqb (byte (drop 1 input) 0) 0) (lt-leb (length (drop 1 input)) 0 (omega (arith, h, size)))
           (ap (λ j. eqb j 0) (get_or-drop 1 input 0 0) ∙ eq)
 
-  pub zero_wrong : (s : Shape) → s.lead ≡ field.Fixed b → s.zero ≡ field.Fixed 0 → {from : ℕ} → from ≡ behind_zero input → from ≡ 0
-      → Wrong (scanned lead g s input)
+  pub zero_wrong : (s : Shape) → s.lead ≡ field.Fixed b → s.zero ≡ field.Fixed 0 → None ≡ behind_zero input → Wrong (scanned lead g s input)
   unfolding walk seq
-  zero_wrong s il iz e n =
+  zero_wrong s il iz e =
       past_first (scan lead g s.lead input) (ap (λ f. scan lead g f input) il ∙ fixed_seen lead g input 0 b some low is) _
-      (second (scan lead g s.zero (drop 1 input)) (subst (λ f. Wrong (scan lead g f (drop 1 input))) (sym iz) (no_zero e n)) _)
+      (second (scan lead g s.zero (drop 1 input)) (subst (λ f. Wrong (scan lead g f (drop 1 input))) (sym iz) (no_zero e)) _)
     where
       past_first : (l : Leaf) → l ≡ Fine 1 0 → (k : ℕ → ℕ → Leaf) → Wrong (k 1 0) → Wrong (next l k 0)
       past_first l e k w = subst (λ x. Wrong (next x k 0)) (sym e) w
 
       second : (l : Leaf) → Wrong l → (k : ℕ → ℕ → Leaf) → Wrong (next l k 1)
-      second (Fine t m) w k = absurd w
-      second (Bad y j) w k = tt
+      second (Ok span) w k = absurd w
+      second (Err fault) w k = tt
 
 -- ---- two fields behind them
 

@@ -1,18 +1,20 @@
 -- From what the straight code of a class leaves to what the call answers, within the limits and outside.
+use Rattle.std.specs.Prelude.{None}
+use Rattle.std.specs.Prelude.{Option, Some}
+use Rattle.std.specs.Prelude.{Err, Ok}
 use Prim.Native.Nat.{ℕ, ◌+◌, ◌-◌, ◌%◌, ◌≤◌, ◌<◌, ◌^◌}
 use native.Mathlib.Omega.{arith}
 use mathlib.Core.Path.{◌≡◌, refl, sym, ap, ◌∙◌, subst}
 use mathlib.Core.Bool.{Bool, true, false, cond}
 use mathlib.Core.List.{List, [], ◌∷◌}
-use borrow.Author.Tests.{lt-ltb, le-ltb, ltb-false, eqb-false, eq-eqb, ne_eqb}
+use borrow.Author.Tests.{le-ltb, ltb-false, eqb-false, eq-eqb, ne_eqb}
 use lib.Dec.{eqb, ltb}
 use lib.ListN.{length, take}
 use Rattle.fields.specs.declared.Field.{Field}
 use Rattle.fields.specs.declared.Field.TheVariants as field
-use Rattle.fields.specs.declared.Found.TheVariants as found
-use Rattle.fields.specs.declared.Leaf.{Leaf}
-use Rattle.fields.specs.declared.Leaf.TheVariants.{Fine, Bad}
-use Rattle.fields.specs.declared.Read.TheVariants as read
+use Rattle.fields.specs.Leaf.{Leaf}
+use Rattle.fields.specs.Leaf.{Fine, Bad}
+use Rattle.fields.specs.Read as read
 use Rattle.fields.specs.declared.Refusal.TheVariants as refusal
 use Rattle.fields.specs.declared.Shape.{Shape}
 use Rattle.fields.specs.declared.Site.TheVariants.{CanonLead}
@@ -21,12 +23,13 @@ use Rattle.fields.specs.Grades as grades
 use Rattle.fields.specs.Shape.{widths}
 use Rattle.fields.specs.Table.{two_of, shape_in}
 use Rattle.fields.specs.Words.{wide}
+use Rattle.fields.proofs.OutcomeLaws.{fine-same}
 use Rattle.reading.specs.Read.{scanned, filled, roomed, read_item, scanned_found, scanned_item, refusal_of}
 use Rattle.reading.specs.Scan.{byte}
 use Rattle.reading.specs.Seen.{within, roomy}
 use Rattle.reading.specs.declared.Pair.{Pair}
-use Rattle.reading.specs.declared.Tried.{Tried}
-use Rattle.reading.specs.declared.Tried.TheVariants as answer
+use Rattle.reading.specs.inside.Try.{Tried}
+use Rattle.reading.specs.inside.Try as answer
 use Rattle.reading.specs.inside.Steps.{scans, fills, end_of}
 use Rattle.reading.specs.inside.Tried.{LeftTried, left_tried, tried, tried_found}
 use Rattle.reading.proofs.StepLaws.{Open, end_made, end_fine}
@@ -47,7 +50,7 @@ use Rattle.numbers.proofs.Impossible.{impossible}
 -- ---- a class with at most two words
 
 pub record Line (c : Class) (f h : Short) (z : Field) (words : ℕ) : Type 0 where
-  pub shape : (b : ℕ) → shape_for c b ≡ found.Is (two_of (field.Fixed b) z (field_of f) (field_of h))
+  pub shape : (b : ℕ) → shape_for c b ≡ Some (two_of (field.Fixed b) z (field_of f) (field_of h))
   pub count : words ≡ 1 + widths (field_of f ∷ field_of h ∷ [])
   pub few : words ≤ 3
   pub same : (r : Pair) → take (words - 1) (r.a ∷ r.b ∷ []) ≡ short_words f h r
@@ -85,37 +88,36 @@ pub rep_index-line : Line class.RepIndex short.Rep short.Index field.Nothing 3
 unfolding shape_for widths wide
 rep_index-line = record { shape = λ b. refl; count = refl; few = omega arith; same = λ r. refl; all_open_lem = (tt, (tt, tt)) }
 
-told_count : (g : ℕ) (input : List ℕ) (fs : List Field) (at t m : ℕ) → 0 < t → scans g input fs at 1 ≡ Fine t m → m ≡ 1 + widths fs
+told_count : (g : ℕ) (input : List ℕ) (fs : List Field) (at t m : ℕ) → scans g input fs at 1 ≡ Fine t m → m ≡ 1 + widths fs
 unfolding end_of
-told_count g input fs at t m h e =
-    let end : end_of (scans g input fs at 1) ≡ t = ap end_of e in
-    let fine = end_fine g input fs at 1 (rw (end_made g input fs at 0 1, end) h) in
-    let same : Fine t m ≡ Fine (end_of (scans g input fs at 0)) (1 + widths fs) = sym e ∙ fine in
-    cc
+told_count g input fs at t m e = (fine-same (sym e ∙ end_fine g input fs at 1 t (end_made g input fs at 0 1 ∙ ap end_of e))).1
 
 -- what is found of a class
-pub class_tried : {c d : Class} (b kind lead g : ℕ) (input row : List ℕ) {s : Shape} {x : LeftTried} → c ≡ d → shape_for d b ≡ found.Is s
+pub class_tried : {c d : Class} (b kind lead g : ℕ) (input row : List ℕ) {s : Shape} {x : LeftTried} → c ≡ d → shape_for d b ≡ Some s
     → x ≡ tried (scanned lead g s input) (filled kind lead g s input) row → x ≡ tried_found (shape_for c b) kind lead g input row
 class_tried b kind lead g input row e is t =
     t ∙ ap (λ f. tried_found f kind lead g input row) (sym (ap (λ k. shape_for k b) e ∙ is))
 
-module _ {d : Class} {f h : Short} {z : Field} {words : ℕ} (line : Line d f h z words) (g : ℕ) (input : List ℕ) (from : ℕ) (r : Pair)
+module _ {d : Class} {f h : Short} {z : Field} {words : ℕ} (line : Line d f h z words) (g : ℕ) (input : List ℕ) (from : ℕ) (r : Option Pair)
     (told : Told f h (scans g input (field_of f ∷ field_of h ∷ []) from 1) (fills g input (field_of f ∷ field_of h ∷ []) from) r) where
   stored_tried : (kind : ℕ) (row : List ℕ)
       → stored kind words r row ≡ tried (scans g input (field_of f ∷ field_of h ∷ []) from 1) (kind ∷ fills g input (field_of f ∷ field_of h ∷ []) from) row
   unfolding stored tried roomy
-  stored_tried kind row = go (scans g input (field_of f ∷ field_of h ∷ []) from 1) refl told
+  stored_tried kind row = go (scans g input (field_of f ∷ field_of h ∷ []) from 1) refl r told
     where
       ws : List ℕ
       ws = fills g input (field_of f ∷ field_of h ∷ []) from
 
-      go : (l : Leaf) → scans g input (field_of f ∷ field_of h ∷ []) from 1 ≡ l → Told f h l ws r → stored kind words r row ≡ tried l (kind ∷ ws) row
-      go (Fine t m) e k =
-          let n = told_count g input (field_of f ∷ field_of h ∷ []) from t m (omega (arith, k.1, k.0)) e in
-          let same : words ≡ m = line.count ∙ sym n in
-          let content : take (words - 1) (r.a ∷ r.b ∷ []) ≡ ws = line.same r ∙ k.2 in
-          rw (lt-ltb 0 r.took k.0, content, k.1, same, le-ltb 16384 m (omega (arith, line.few, same))) refl
-      go (Bad w j) e k = rw k refl
+      go : (l : Leaf) → scans g input (field_of f ∷ field_of h ∷ []) from 1 ≡ l → (o : Option Pair) → Told f h l ws o
+          → stored kind words o row ≡ tried l (kind ∷ ws) row
+      go (Ok span) e (Some x) k =
+          let n = told_count g input (field_of f ∷ field_of h ∷ []) from span.took span.made e in
+          let same : words ≡ span.made = line.count ∙ sym n in
+          let content : take (words - 1) (x.a ∷ x.b ∷ []) ≡ ws = line.same x ∙ k.1 in
+          rw (content, k.0, same, le-ltb 16384 span.made (omega (arith, line.few, same))) refl
+      go (Ok span) e None k = absurd k
+      go (Err fault) e (Some x) k = impossible cc
+      go (Err fault) e None k = refl
 
   -- an item of a class, read and stored
   pub short_class : {c : Class} → c ≡ d → (kind : ℕ) (row : List ℕ) {x : LeftTried} → x ≡ stored kind words r row → (lead b : ℕ)
@@ -202,7 +204,7 @@ module _ (g : ℕ) (input row : List ℕ) {b : ℕ} (c : Class) (eb : b ≡ byte
         pub read_some : (q e : ℕ) → x ≡ answer.Item q e → left_row (read.Item q e) new ≡ read_canonical g input row
         read_some q e i = call_done (shape_for c b) (256 + b) (grade b) g input row limits q e new (same i) ∙ sym read_as
 
-        pub read_none : x ≡ answer.Not → left_row (refusal_of (scanned_item (shape_of (256 + b)) l g input)) new ≡ read_canonical g input row
+        pub read_none : x ≡ None → left_row (refusal_of (scanned_item (shape_of (256 + b)) l g input)) new ≡ read_canonical g input row
         read_none i =
             ap (λ f. left_row (refusal_of (scanned_item f l g input)) new) shape_is
             ∙ ap (λ j. left_row (refusal_of (scanned_item (shape_for c b) j g input)) new) el
@@ -239,14 +241,14 @@ module _ (g : ℕ) (input row : List ℕ) where
           simp (le-ltb _ _ k.0, le-ltb _ _ k.1, le-ltb _ _ k.2, ne_eqb (length input) 0 (λ z. omega (arith, k.4)))
           (read_done (scanned 1 g lift_bytes input) (lift_words g input) row new q e (lifted i))
 
-      pub lift_none : x ≡ answer.Not → left_row (refusal_of (scanned_item (found.Is lift_bytes) 1 g input)) new ≡ read_lift g input row
+      pub lift_none : x ≡ None → left_row (refusal_of (scanned_item (Some lift_bytes) 1 g input)) new ≡ read_lift g input row
       unfolding read_lift scanned_item
       lift_none i =
           let k = within-limits 1 g input h in
           simp (le-ltb _ _ k.0, le-ltb _ _ k.1, le-ltb _ _ k.2, ne_eqb (length input) 0 (λ z. omega (arith, k.4)))
           (read_not (scanned 1 g lift_bytes input) (lift_words g input) row new (lifted i))
 
-  pub lift_outside : within 1 g input ≡ false → left_row (refusal_of (scanned_item (found.Is lift_bytes) 1 g input)) row ≡ read_lift g input row
+  pub lift_outside : within 1 g input ≡ false → left_row (refusal_of (scanned_item (Some lift_bytes) 1 g input)) row ≡ read_lift g input row
   unfolding within read_lift scanned_item
   lift_outside h =
       go (ltb (2 ^ 30) (length input)) (ltb g 1) (ltb 3 g) (ltb 0 (length input)) (eqb (length input) 0) refl refl h

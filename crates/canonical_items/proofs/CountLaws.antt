@@ -1,5 +1,7 @@
 -- Canonicals with options: the index and the count behind the first bytes, the options, and a lift's type.
-use Prim.Native.Nat.{ℕ, suc, ◌+◌, ◌-◌, ◌*◌, ◌≤◌, ◌<◌}
+use Rattle.std.specs.Prelude.{Some, None}
+use Rattle.std.specs.Prelude.{Err, Ok}
+use Prim.Native.Nat.{ℕ, suc, ◌+◌, ◌-◌, ◌*◌, ◌≤◌}
 use native.Mathlib.Omega.{arith}
 use native.Mathlib.Nat.{add-zero}
 use mathlib.Core.Path.{◌≡◌, refl, sym, ap, ◌∙◌, subst}
@@ -9,13 +11,13 @@ use lib.Dec.{ltb, leb}
 use lib.ListN.{length, take, drop, set, length-append}
 use lib.Seq.{sets, drop-drop}
 use borrow.Author.Tests.{leb-true, ltb-false}
-use Rattle.numbers.specs.declared.leb.Taken.{Taken}
-use Rattle.numbers.specs.declared.leb.Taken.TheVariants as taken
+use Rattle.numbers.specs.Taken.{Taken}
+use Rattle.numbers.specs.Taken as taken
 use Rattle.numbers.specs.Leb.{take_unsigned}
 use Rattle.fields.specs.declared.Field.{Field}
 use Rattle.fields.specs.declared.Field.TheVariants as field
-use Rattle.fields.specs.declared.Leaf.{Leaf}
-use Rattle.fields.specs.declared.Leaf.TheVariants.{Fine, Bad}
+use Rattle.fields.specs.Leaf.{Leaf}
+use Rattle.fields.specs.Leaf.{Fine}
 use Rattle.fields.specs.declared.Shape.{Shape}
 use Rattle.fields.specs.inside.Run.{along, makes, after}
 use Rattle.fields.specs.inside.Stages.{counted_fields}
@@ -29,7 +31,8 @@ use Rattle.reading.specs.Fill.{index, fill}
 use Rattle.reading.specs.Read.{scanned, filled}
 use Rattle.reading.specs.Scan.{scan_index, scan}
 use Rattle.reading.specs.Seen.{roomy}
-use Rattle.reading.specs.declared.Tried.TheVariants as answer
+use Rattle.reading.specs.inside.Try.{Tried}
+use Rattle.reading.specs.inside.Try as answer
 use Rattle.reading.specs.inside.Stages.{counted_scan, counted_fill}
 use Rattle.reading.specs.inside.Steps.{scans, fills, end_of}
 use Rattle.reading.specs.inside.Tried.{left_tried, tried}
@@ -44,12 +47,12 @@ use Rattle.numbers.proofs.Impossible.{impossible}
 
 -- ---- what is tried
 
-pub tried-wrong : (l : Leaf) (ws row : List ℕ) → Wrong l → left_tried answer.Not row ≡ tried l ws row
+pub tried-wrong : (l : Leaf) (ws row : List ℕ) → Wrong l → {r : Tried} → r ≡ None → left_tried r row ≡ tried l ws row
 unfolding tried
-tried-wrong (Fine a m) ws row h = absurd h
-tried-wrong (Bad w j) ws row h = refl
+tried-wrong (Ok span) ws row h e = absurd h
+tried-wrong (Err fault) ws row h e = ap (λ r. left_tried r row) e
 
-tried_cramped : (e q : ℕ) (ws row : List ℕ) → roomy q (length row) ≡ false → left_tried answer.Not row ≡ tried (Fine e q) ws row
+tried_cramped : (e q : ℕ) (ws row : List ℕ) → roomy q (length row) ≡ false → left_tried None row ≡ tried (Fine e q) ws row
 unfolding tried
 tried_cramped e q ws row h = rw h
 
@@ -67,8 +70,8 @@ room_fits q n h = go (ltb 16384 q) (leb q n) refl refl h
     go false false ea eb h = impossible cc
 
 after-wrong : (l : Leaf) (k : ℕ → ℕ → Leaf) → Wrong l → Wrong (after l k)
-after-wrong (Fine a m) k h = absurd h
-after-wrong (Bad w j) k h = tt
+after-wrong (Ok span) k h = absurd h
+after-wrong (Err fault) k h = tt
 
 -- ---- the opening, and what is counted
 
@@ -89,7 +92,7 @@ module _ (lead g b : ℕ) (z last : Field) (input : List ℕ) (from : ℕ) (begu
     where
       go : (x : Taken) → take_unsigned (drop from input) ≡ x
           → Wrong (along (scan lead g) (field.Index ∷ field.Nothing ∷ []) (drop from input) from 1)
-      go (taken.Value n t) e = absurd (h n t e)
+      go (Ok taken2) e = absurd (h taken2.value taken2.took e)
       go taken.Cut e = rw e tt
       go taken.Bad e = rw e tt
 
@@ -136,9 +139,9 @@ module _ (lead g b : ℕ) (z last : Field) (input : List ℕ) (from : ℕ) (begu
   unopened h = go (take_unsigned (drop from input)) refl
     where
       go : (x : Taken) → take_unsigned (drop from input) ≡ x → Wrong (scanned lead g shape input)
-      go (taken.Value n t) e =
-          let k = counted_none 1 g behind input (from + t) 2 (λ m u d. h n t m u e d) in
-          subst Wrong (sym (whole n t e ∙ k.2)) tt
+      go (Ok taken2) e =
+          let k = counted_none 1 g behind input (from + taken2.took) 2 (λ m u d. h taken2.value taken2.took m u e d) in
+          subst Wrong (sym (whole taken2.value taken2.took e ∙ k.2)) tt
       go taken.Cut e = subst Wrong (sym staged) (after-wrong (along (scan lead g) (field.Index ∷ field.Nothing ∷ []) (drop from input) from 1) (λ at made. counted_scan lead g shape input at made) (opens_wrong (λ n t d. no (sym e ∙ d))))
         where
           no : {n t : ℕ} → taken.Cut ≡ taken.Value n t → ⊥
@@ -148,10 +151,7 @@ module _ (lead g b : ℕ) (z last : Field) (input : List ℕ) (from : ℕ) (begu
           no : {n t : ℕ} → taken.Bad ≡ taken.Value n t → ⊥
           no d = impossible cc
 
-  module _ (r : Head) (o : Opened input from r) (some : 0 < r.next) where
-    abbrev ends : ℕ
-    ends = end_of (scans g input (options r.count) r.next 0)
-
+  module _ (r : Head) (o : Opened input from r) where
     counted : scanned lead g shape input
         ≡ after (scans g input (options r.count) r.next 3) (λ a m. along (scan 1 g) (last ∷ []) (drop a input) a m)
     counted =
@@ -159,57 +159,56 @@ module _ (lead g b : ℕ) (z last : Field) (input : List ℕ) (from : ℕ) (begu
         ∙ ap (λ j. after (scans g input (options r.count) j 3) (λ a m. along (scan 1 g) (last ∷ []) (drop a input) a m)) (sym o.ends)
 
     -- an option is not right
-    pub options_wrong : ends ≡ 0 → Wrong (scanned lead g shape input)
+    pub options_wrong : end_of (scans g input (options r.count) r.next 0) ≡ None → Wrong (scanned lead g shape input)
     options_wrong e =
         subst Wrong (sym counted)
         (after-wrong (scans g input (options r.count) r.next 3) (λ a m. along (scan 1 g) (last ∷ []) (drop a input) a m)
-        (end_wrong g input (options r.count) r.next 3 some e))
+        (end_wrong g input (options r.count) r.next 3 e))
 
-    module _ (right : 0 < ends) where
-      fine : (made : ℕ) → scans g input (options r.count) r.next made ≡ Fine ends (made + r.count * 2)
+    module _ (end : ℕ) (right : end_of (scans g input (options r.count) r.next 0) ≡ Some end) where
+      fine : (made : ℕ) → scans g input (options r.count) r.next made ≡ Fine end (made + r.count * 2)
       unfolding widths wide
       fine made =
-          end_fine g input (options r.count) r.next made right
-          ∙ ap (λ w. Fine ends (made + w)) (repeated_widths (field.Choice ∷ field.Nothing ∷ []) r.count)
+          end_fine g input (options r.count) r.next made end right
+          ∙ ap (λ w. Fine end (made + w)) (repeated_widths (field.Choice ∷ field.Nothing ∷ []) r.count)
 
       -- they are
-      pub options_right : scanned lead g shape input ≡ scans g input (last ∷ []) ends (3 + r.count * 2)
+      pub options_right : scanned lead g shape input ≡ scans g input (last ∷ []) end (3 + r.count * 2)
       options_right = counted ∙ ap (λ l. after l (λ a m. along (scan 1 g) (last ∷ []) (drop a input) a m)) (fine 3)
 
       pub options_words : (kind : ℕ) → filled kind lead g shape input
-          ≡ kind ∷ r.index ∷ r.count ∷ (fills g input (options r.count) r.next ++ fills g input (last ∷ []) ends)
+          ≡ kind ∷ r.index ∷ r.count ∷ (fills g input (options r.count) r.next ++ fills g input (last ∷ []) end)
       options_words kind =
           whole_words r.index o.t o.first kind
           ∙ ap (λ ws. kind ∷ r.index ∷ ws)
           (counted_words 1 g behind input (from + o.t) r.count o.u o.second
           ∙ ap (λ j. r.count ∷ makes (scan 1 g) (fill g) (options r.count ++ last ∷ []) j (drop j input)) (sym o.ends)
           ∙ ap (λ ws. r.count ∷ ws)
-          (makes-append (scan 1 g) (fill g) (options r.count) (last ∷ []) input r.next 0 ends (0 + r.count * 2) (fine 0)))
+          (makes-append (scan 1 g) (fill g) (options r.count) (last ∷ []) input r.next 0 end (0 + r.count * 2) (fine 0)))
 
 -- ---- options alone
 
 module _ (lead g b : ℕ) (z : Field) (input : List ℕ) (from : ℕ) (begun : Begun lead g b z input from) (r : Head) (o : Opened input from r)
-    (some : 0 < r.next) (end : ℕ) (ended : end ≡ end_of (scans g input (options r.count) r.next 0)) (right : 0 < end) where
+    (end : ℕ) (right : end_of (scans g input (options r.count) r.next 0) ≡ Some end) where
   abbrev alone : Shape
   alone = many_of (field.Fixed b) z field.Index field.Choice field.Nothing field.Nothing
 
   alone_leaf : scanned lead g alone input ≡ Fine end (3 + r.count * 2)
   unfolding along scan
   alone_leaf =
-      options_right lead g b z field.Nothing input from begun tt r o some (subst (λ n. 0 < n) ended right)
-      ∙ (let e = sym ended in
-      let p : end_of (scans g input (options r.count) r.next 0) + 0 ≡ end = add-zero _ ∙ e in
+      options_right lead g b z field.Nothing input from begun tt r o end right
+      ∙ (let p : end + 0 ≡ end = add-zero _ in
       let q : 3 + r.count * 2 + 0 ≡ 3 + r.count * 2 = omega arith in
       λ i. Fine (p i) (q i))
 
   alone_words : (kind : ℕ) → filled kind lead g alone input ≡ kind ∷ r.index ∷ r.count ∷ fills g input (options r.count) r.next
   unfolding makes fill
   alone_words kind =
-      options_words lead g b z field.Nothing input from begun tt r o some (subst (λ n. 0 < n) ended right) kind
+      options_words lead g b z field.Nothing input from begun tt r o end right kind
       ∙ ap (λ ws. kind ∷ r.index ∷ r.count ∷ ws) (append-nil (fills g input (options r.count) r.next))
 
   pub alone_cramped : (kind : ℕ) (row : List ℕ) → roomy (3 + r.count * 2) (length row) ≡ false
-      → left_tried answer.Not row ≡ tried (scanned lead g alone input) (filled kind lead g alone input) row
+      → left_tried None row ≡ tried (scanned lead g alone input) (filled kind lead g alone input) row
   alone_cramped kind row h =
       tried_cramped end (3 + r.count * 2) (filled kind lead g alone input) row h
       ∙ ap (λ l. tried l (filled kind lead g alone input) row) (sym alone_leaf)
@@ -247,23 +246,21 @@ third a b c x ws =
     ∙ ap (λ l. a ∷ b ∷ x ∷ c ∷ l) (take_all ws (x ∷ []))
 
 module _ (g : ℕ) (input : List ℕ) (from : ℕ) (begun : Begun 1 g 0 (field.Fixed 0) input from) (r : Head) (o : Opened input from r)
-    (some : 0 < r.next) (end : ℕ) (ended : end ≡ end_of (scans g input (options r.count) r.next 0)) (right : 0 < end) where
+    (end : ℕ) (right : end_of (scans g input (options r.count) r.next 0) ≡ Some end) where
   abbrev lifted : Shape
   lifted = many_of (field.Fixed 0) (field.Fixed 0) field.Index field.Choice field.Nothing field.Index
 
   lift_last : scanned 1 g lifted input ≡ scans g input (field.Index ∷ []) end (3 + r.count * 2)
-  lift_last =
-      options_right 1 g 0 (field.Fixed 0) field.Index input from begun tt r o some (subst (λ n. 0 < n) ended right)
-      ∙ ap (λ n. scans g input (field.Index ∷ []) n (3 + r.count * 2)) (sym ended)
+  lift_last = options_right 1 g 0 (field.Fixed 0) field.Index input from begun tt r o end right
 
   -- no type
-  pub lift_open : ((n t : ℕ) → take_unsigned (drop end input) ≡ taken.Value n t → ⊥) → (ws row : List ℕ)
-      → left_tried answer.Not row ≡ tried (scanned 1 g lifted input) ws row
+  pub lift_open : ((n t : ℕ) → take_unsigned (drop end input) ≡ taken.Value n t → ⊥) → (ws row : List ℕ) {r : Tried} → r ≡ None
+      → left_tried r row ≡ tried (scanned 1 g lifted input) ws row
   unfolding along scan scan_index
-  lift_open h ws row = tried-wrong (scanned 1 g lifted input) ws row (subst Wrong (sym lift_last) (go (take_unsigned (drop end input)) refl))
+  lift_open h ws row z = tried-wrong (scanned 1 g lifted input) ws row (subst Wrong (sym lift_last) (go (take_unsigned (drop end input)) refl)) z
     where
       go : (x : Taken) → take_unsigned (drop end input) ≡ x → Wrong (scans g input (field.Index ∷ []) end (3 + r.count * 2))
-      go (taken.Value n t) e = absurd (h n t e)
+      go (Ok taken2) e = absurd (h taken2.value taken2.took e)
       go taken.Cut e = rw e tt
       go taken.Bad e = rw e tt
 
@@ -282,13 +279,12 @@ module _ (g : ℕ) (input : List ℕ) (from : ℕ) (begun : Begun 1 g 0 (field.F
     lift_words_lem =
         let ws = fills g input (options r.count) r.next in
         ap type_third
-        (options_words 1 g 0 (field.Fixed 0) field.Index input from begun tt r o some (subst (λ n. 0 < n) ended right) 256
-        ∙ ap (λ j. 256 ∷ r.index ∷ r.count ∷ (ws ++ fills g input (field.Index ∷ []) j)) (sym ended)
+        (options_words 1 g 0 (field.Fixed 0) field.Index input from begun tt r o end right 256
         ∙ ap (λ l. 256 ∷ r.index ∷ r.count ∷ (ws ++ l)) type_words)
         ∙ third 256 r.index r.count n ws
 
     pub lift_cramped : (row : List ℕ) → roomy (4 + r.count * 2) (length row) ≡ false
-        → left_tried answer.Not row ≡ tried (scanned 1 g lifted input) (type_third (filled 256 1 g lifted input)) row
+        → left_tried None row ≡ tried (scanned 1 g lifted input) (type_third (filled 256 1 g lifted input)) row
     lift_cramped row h =
         tried_cramped (end + t) (4 + r.count * 2) (type_third (filled 256 1 g lifted input)) row h
         ∙ ap (λ l. tried l (type_third (filled 256 1 g lifted input)) row) (sym lift_leaf)

@@ -1,8 +1,9 @@
 -- Options: what is read of one, where n of them end, and the loop that stores their words.
-use Prim.Native.Nat.{ℕ, zero, suc, ◌+◌, ◌-◌, ◌*◌, ◌≤◌, ◌<◌}
+use Rattle.std.specs.Prelude.{Ok, Option, Some, None, IsSome, is_some}
+use Prim.Native.Nat.{ℕ, suc, ◌+◌, ◌-◌, ◌*◌, ◌≤◌, ◌<◌}
 use native.Mathlib.Nat.{suc-mul}
 use native.Mathlib.Omega.{arith}
-use mathlib.Core.Path.{◌≡◌, refl, sym, ap, ◌∙◌, subst}
+use mathlib.Core.Path.{◌≡◌, refl, sym, ap, ◌∙◌}
 use mathlib.Core.Bool.{Bool, true, false, cond}
 use mathlib.Core.List.{List, [], ◌∷◌}
 use lib.Dec.{ltb, leb}
@@ -10,17 +11,17 @@ use lib.ListN.{length, take, drop, set, length-drop}
 use lib.Seq.{sets}
 use borrow.Author.Tests.{lt-leb, le-leb, lt-ltb, le-ltb, leb-true, leb-false}
 use Rattle.numbers.specs.declared.leb.Number.{Number}
-use Rattle.numbers.specs.declared.leb.Taken.{Taken}
-use Rattle.numbers.specs.declared.leb.Taken.TheVariants as taken
-use Rattle.numbers.specs.Integers.{u32}
+use Rattle.numbers.specs.Taken.{Taken}
+use Rattle.numbers.specs.Taken as taken
 use Rattle.numbers.specs.Leb.{take_unsigned}
 use Rattle.numbers.specs.Seen.{seen}
 use Rattle.numbers.proofs.BytesLaws.{to_end}
-use Rattle.numbers.proofs.LebLaws.{taken-inside}
+use Rattle.numbers.proofs.SeenLaws.{seen-taken}
 use Rattle.fields.specs.declared.Field.{Field}
 use Rattle.fields.specs.declared.Field.TheVariants as field
-use Rattle.fields.specs.declared.Leaf.{Leaf}
-use Rattle.fields.specs.declared.Leaf.TheVariants.{Fine, Bad}
+use Rattle.fields.specs.Leaf.{Leaf}
+use Rattle.fields.specs.Leaf.{Fine, Bad}
+use Rattle.fields.proofs.OutcomeLaws.{fine-same}
 use Rattle.fields.specs.declared.Refusal.TheVariants.{Newer, Code}
 use Rattle.fields.specs.declared.Site.TheVariants.{CanonOption}
 use Rattle.fields.specs.Grades.{grade_of}
@@ -29,9 +30,9 @@ use Rattle.fields.specs.Words.{indexed, wide}
 use Rattle.reading.specs.Fill.{value_in, fill}
 use Rattle.reading.specs.Scan.{byte, past, numbered, scan_index, chosen, scan_choice, scan}
 use Rattle.reading.specs.declared.Pair.{Pair}
-use Rattle.reading.specs.Seen.{pair, pair_of, pair_is, no_pair}
+use Rattle.reading.specs.Seen.{pair, pair_of, pair_is}
 use Rattle.reading.proofs.FillLaws.{Stands, Filling, filling_as, filling_alone, set-two}
-use Rattle.reading.proofs.StepLaws.{Wrong, scan-takes, pair-some, pair_none, fill_at}
+use Rattle.reading.proofs.StepLaws.{Wrong, pair-some, pair_none, fill_at}
 use Rattle.canonical_items.specs.inside.Short.{is_option}
 use Rattle.numbers.proofs.Impossible.{impossible}
 
@@ -49,12 +50,12 @@ option_tests g k h = go (ltb k 10) (leb (grade_of CanonOption k) g) refl refl h
     go false q ep eq h = impossible cc
 
 module _ (g : ℕ) (bs : List ℕ) where
-  pub option_empty : length bs ≤ 0 → no_pair ≡ pair g field.Choice bs
+  pub option_empty : length bs ≤ 0 → None ≡ pair g field.Choice bs
   unfolding scan scan_choice pair_of
   option_empty h = simp (le-leb (length bs) 0 h)
 
   module _ (some : 0 < length bs) where
-    pub option_other : is_option g (byte bs 0) ≡ false → no_pair ≡ pair g field.Choice bs
+    pub option_other : is_option g (byte bs 0) ≡ false → None ≡ pair g field.Choice bs
     unfolding scan scan_choice pair_of is_option
     option_other h = simp (lt-leb (length bs) 0 some) (go (ltb (byte bs 0) 10) (leb (grade_of CanonOption (byte bs 0)) g) refl h)
       where
@@ -62,65 +63,50 @@ module _ (g : ℕ) (bs : List ℕ) where
         ws = fill g field.Choice 0 bs
 
         go : (p q : Bool) → leb (grade_of CanonOption (byte bs 0)) g ≡ q → cond p q false ≡ false
-            → no_pair ≡ pair_of (cond p (cond (ltb g (grade_of CanonOption (byte bs 0))) (Bad Newer 0) (chosen bs)) (Bad Code 0)) ws
+            → None ≡ pair_of (cond p (cond (ltb g (grade_of CanonOption (byte bs 0))) (Bad Newer 0) (chosen bs)) (Bad Code 0)) ws
         go true true e h = impossible cc
         go true false e h = rw (lt-ltb g (grade_of CanonOption (byte bs 0)) (leb-false _ _ e)) refl
         go false q e h = refl
 
     module _ (is : is_option g (byte bs 0) ≡ true) where
-      pub option_alone : indexed (byte bs 0) ≡ false → pair_is 1 (byte bs 0) 0 ≡ pair g field.Choice bs
+      pub option_alone : indexed (byte bs 0) ≡ false → Some (pair_is 1 (byte bs 0) 0) ≡ pair g field.Choice bs
       unfolding scan scan_choice fill pair_of
       option_alone e =
           simp (lt-leb (length bs) 0 some, (option_tests g (byte bs 0) is).0, (option_tests g (byte bs 0) is).1, e)
 
-      behind : (r : Taken) → 0 < (seen r).took
-          → pair_is (1 + (seen r).took) (byte bs 0) (seen r).value ≡ pair_of (past 1 (numbered (drop 1 bs) r 2)) (byte bs 0 ∷ value_in r ∷ [])
-      unfolding pair_of
-      behind (taken.Value n t) h = refl
-      behind taken.Cut h = absurd (omega arith)
-      behind taken.Bad h = absurd (omega arith)
+      pub option_indexed : indexed (byte bs 0) ≡ true → {x : Number} → Some x ≡ seen (take_unsigned (drop 1 bs))
+          → Some (pair_is (1 + x.took) (byte bs 0) x.value) ≡ pair g field.Choice bs
+      unfolding scan scan_choice scan_index fill pair_of
+      option_indexed e {x} s =
+          let t = seen-taken (take_unsigned (drop 1 bs)) x (sym s) in
+          simp (lt-leb (length bs) 0 some, (option_tests g (byte bs 0) is).0, (option_tests g (byte bs 0) is).1, e, t)
 
-      not_behind : (r : Taken) → take_unsigned (drop 1 bs) ≡ r → (seen r).took ≤ 0
-          → no_pair ≡ pair_of (past 1 (numbered (drop 1 bs) r 2)) (byte bs 0 ∷ value_in r ∷ [])
+      not_behind : (r : Taken) → seen r ≡ None → None ≡ pair_of (past 1 (numbered (drop 1 bs) r 2)) (byte bs 0 ∷ value_in r ∷ [])
       unfolding pair_of
-      not_behind (taken.Value n t) e h = absurd (omega (arith, h, (taken-inside u32 (drop 1 bs) n t e).0))
-      not_behind taken.Cut e h = refl
-      not_behind taken.Bad e h = refl
+      not_behind (Ok taken2) h = impossible cc
+      not_behind taken.Cut h = refl
+      not_behind taken.Bad h = refl
 
-      pub option_indexed : indexed (byte bs 0) ≡ true → (x : Number) → x ≡ seen (take_unsigned (drop 1 bs)) → 0 < x.took
-          → pair_is (1 + x.took) (byte bs 0) x.value ≡ pair g field.Choice bs
+      pub option_cut : indexed (byte bs 0) ≡ true → None ≡ seen (take_unsigned (drop 1 bs)) → None ≡ pair g field.Choice bs
       unfolding scan scan_choice scan_index fill
-      option_indexed e x s h =
-          ap (λ (y : Number). pair_is (1 + y.took) (byte bs 0) y.value) s
-          ∙ behind (take_unsigned (drop 1 bs)) (subst (λ (y : Number). 0 < y.took) s h)
+      option_cut e s =
+          not_behind (take_unsigned (drop 1 bs)) (sym s)
           ∙ simp (lt-leb (length bs) 0 some, (option_tests g (byte bs 0) is).0, (option_tests g (byte bs 0) is).1, e)
 
-      pub option_cut : indexed (byte bs 0) ≡ true → (x : Number) → x ≡ seen (take_unsigned (drop 1 bs)) → x.took ≤ 0
-          → no_pair ≡ pair g field.Choice bs
-      unfolding scan scan_choice scan_index fill
-      option_cut e x s h =
-          not_behind (take_unsigned (drop 1 bs)) refl (subst (λ (y : Number). y.took ≤ 0) s h)
-          ∙ simp (lt-leb (length bs) 0 some, (option_tests g (byte bs 0) is).0, (option_tests g (byte bs 0) is).1, e)
+-- ---- an option at a place of the input, as it is read
 
--- ---- an option at a place of the input
-
-pub positive : (n : ℕ) → (n ≡ 0 → ⊥) → 0 < n
-positive zero h = absurd (h refl)
-positive (suc n) h = omega arith
-
-module _ (g : ℕ) (input : List ℕ) (at : ℕ) {x : Pair} (e : x ≡ pair g field.Choice (take (length input - at) (drop at input))) where
-  rest : x ≡ pair g field.Choice (drop at input)
+module _ (g : ℕ) (input : List ℕ) (at : ℕ) {r : Option Pair} (e : r ≡ pair g field.Choice (take (length input - at) (drop at input))) where
+  rest : r ≡ pair g field.Choice (drop at input)
   rest = e ∙ ap (λ (s : List ℕ). pair g field.Choice s) (to_end input at)
 
-  pub choice_some : (x.took ≡ 0 → ⊥) → (scan 1 g field.Choice (drop at input) ≡ Fine x.took 2) × (x.took ≤ length input - at)
+  pub choice_some : {x : Pair} → r ≡ Some x → (scan 1 g field.Choice (drop at input) ≡ Fine x.took 2) × (x.took ≤ length input - at)
   unfolding wide
-  choice_some n =
-      let k = pair-some g field.Choice (drop at input) refl (subst (λ (y : Pair). 0 < y.took) rest (positive x.took n)) in
-      let t : (pair g field.Choice (drop at input)).took ≡ x.took = ap (λ (y : Pair). y.took) (sym rest) in
-      (k.0 ∙ ap (λ (m : ℕ). Fine m 2) t, subst (λ (m : ℕ). x.took ≤ m) (length-drop at input) (subst (λ (m : ℕ). m ≤ length (drop at input)) t k.2))
+  choice_some {x} s =
+      let k = pair-some g field.Choice (drop at input) refl x (sym rest ∙ s) in
+      (k.0, omega (arith, k.2, length-drop at input))
 
-  pub choice_none : x.took ≡ 0 → Wrong (scan 1 g field.Choice (drop at input))
-  choice_none z = pair_none g field.Choice (drop at input) tt (ap (λ (y : Pair). y.took) (sym rest) ∙ z)
+  pub choice_none : r ≡ None → Wrong (scan 1 g field.Choice (drop at input))
+  choice_none z = pair_none g field.Choice (drop at input) (sym rest ∙ z)
 
 -- one that is right, read as v
 pub record Chosen (g : ℕ) (input : List ℕ) (at : ℕ) (v : Pair) : Type 0 where
@@ -128,17 +114,19 @@ pub record Chosen (g : ℕ) (input : List ℕ) (at : ℕ) (v : Pair) : Type 0 wh
   pub is : scan 1 g field.Choice (drop at input) ≡ Fine v.took 2
   pub words : fill g field.Choice at (drop at input) ≡ v.a ∷ v.b ∷ []
 
-pub choice_read : {g : ℕ} {input : List ℕ} {at : ℕ} {v : Pair} → Stands g input field.Choice at
-    → v ≡ pair g field.Choice (take (length input - at) (drop at input)) → Chosen g input at v
-unfolding wide pair_of
-choice_read {g} {input} {at} {v} s e =
-    let bs = drop at input in
-    let took : (pair g field.Choice bs).took ≡ s.t = ap (λ (l : Leaf). (pair_of l (fill g field.Choice 0 bs)).took) s.is in
-    let some : 0 < (pair g field.Choice bs).took = omega (arith, took, (scan-takes g field.Choice bs s.t s.m tt s.is).0) in
-    let k = pair-some g field.Choice bs refl some in
-    let same : pair g field.Choice bs ≡ v = sym (e ∙ ap (λ (l : List ℕ). pair g field.Choice l) (to_end input at)) in
-    subst (λ (x : Pair). Chosen g input at x) same
-    (record { ends = omega (arith, s.ends, took); is = k.0; words = fill_at g field.Choice at bs tt ∙ k.1 })
+module _ {g : ℕ} {input : List ℕ} {at : ℕ} {r : Option Pair} (stands : Stands g input field.Choice at)
+    (e : r ≡ pair g field.Choice (take (length input - at) (drop at input))) where
+  pub choice_there : IsSome r
+  unfolding pair_of
+  choice_there =
+      ap is_some (rest g input at e) ∙ ap (λ (l : Leaf). is_some (pair_of l (fill g field.Choice 0 (drop at input)))) stands.is
+
+  pub choice_read : {v : Pair} → r ≡ Some v → Chosen g input at v
+  unfolding wide
+  choice_read {v} s =
+      let k = pair-some g field.Choice (drop at input) refl v (sym (rest g input at e) ∙ s) in
+      let took = (fine-same (sym stands.is ∙ k.0)).0 in
+      record { ends = omega (arith, stands.ends, took); is = k.0; words = fill_at g field.Choice at (drop at input) tt ∙ k.1 }
 
 -- ---- the loop
 

@@ -1,6 +1,6 @@
 -- Reading a canonical: its kind is 256 and its first byte.
 use Rattle.std.specs.Prelude.{ℕ, ◌+◌, ◌-◌, cond, List, ◌∷◌, ◌++◌, eqb, length, take, drop}
-use Rattle.fields.specs.declared.Read.TheVariants.{Refused}
+use Rattle.fields.specs.Read.{Refused}
 use Rattle.fields.specs.declared.Refusal.TheVariants as refusal
 use Rattle.fields.specs.declared.Site.TheVariants.{CanonLead}
 use Rattle.fields.specs.Answers.{LeftRow, left_row}

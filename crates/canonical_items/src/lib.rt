@@ -17,11 +17,10 @@ ghost use Rattle.canonical_items.specs.ReadCanonical.{type_third, read_lift, rea
 use crate::options::{behind_zero, read_lift, read_options};
 use crate::short::{Short, short_item, store_short};
 use canonicals::Class;
-use fields::{Field, Read, Site};
-use reading::Tried;
+use fields::{Extent, Field, Read, Site};
 
 // The item of a class, whose lead is of no grade above.
-fn read_class(class: Class, kind: u32, grade: u32, input: &[u8], row: &mut [u32]) -> Tried
+fn read_class(class: Class, kind: u32, grade: u32, input: &[u8], row: &mut [u32]) -> Option<Extent>
     requires { (0 < length input.now) × (length input.now ≤ input_bytes) × (1 ≤ grade) }
     ensures { (lead b : ℕ) → lead ≤ grade → byte input.now 0 ≡ b → left_tried result row.new ≡ tried_found (shape_for class b) kind lead grade input.now row.old }
 {
@@ -33,10 +32,7 @@ fn read_class(class: Class, kind: u32, grade: u32, input: &[u8], row: &mut [u32]
             row,
         ),
         Class::Zero => {
-            let from = behind_zero(input);
-            if from == 0 {
-                return Tried::Not;
-            }
+            let from = behind_zero(input)?;
             store_short(
                 kind,
                 1,
@@ -51,10 +47,7 @@ fn read_class(class: Class, kind: u32, grade: u32, input: &[u8], row: &mut [u32]
             row,
         ),
         Class::ZeroIndex => {
-            let from = behind_zero(input);
-            if from == 0 {
-                return Tried::Not;
-            }
+            let from = behind_zero(input)?;
             store_short(
                 kind,
                 2,
@@ -88,25 +81,19 @@ fn read_class(class: Class, kind: u32, grade: u32, input: &[u8], row: &mut [u32]
         ),
         Class::Options => read_options(kind, grade, 1, input, row),
         Class::ZeroOptions => {
-            let from = behind_zero(input);
-            if from == 0 {
-                return Tried::Not;
-            }
+            let from = behind_zero(input)?;
             read_options(kind, grade, from, input, row)
         }
-        Class::Not => Tried::Not,
+        Class::Not => None,
     }
 }
 
 // The lift at the front of the input, where its two bytes 00 are there.
-fn try_lift(grade: u32, input: &[u8], row: &mut [u32]) -> Tried
+fn try_lift(grade: u32, input: &[u8], row: &mut [u32]) -> Option<Extent>
     requires { (0 < length input.now) × (length input.now ≤ input_bytes) × (1 ≤ grade) × (byte input.now 0 ≡ 0) }
     ensures { left_tried result row.new ≡ tried (scanned 1 grade lift_bytes input.now) (type_third (filled 256 1 grade lift_bytes input.now)) row.old }
 {
-    let from = behind_zero(input);
-    if from == 0 {
-        return Tried::Not;
-    }
+    let from = behind_zero(input)?;
     read_lift(grade, from, input, row)
 }
 
@@ -116,11 +103,8 @@ fn lift(input: &[u8], grade: u32, row: &mut [u32]) -> Read
     ensures { left_row result row.new ≡ read_lift grade input.now row.old }
 {
     if reading::is_within(1, grade, input) {
-        match try_lift(grade, &input[0..], row) {
-            Tried::Item(words, took) => {
-                return Read::Item(words, took);
-            }
-            Tried::Not => {}
+        if let Some(item) = try_lift(grade, input, row) {
+            return Ok(item);
         }
     }
     let shape = fields::many_of(
@@ -131,7 +115,7 @@ fn lift(input: &[u8], grade: u32, row: &mut [u32]) -> Read
         Field::Nothing,
         Field::Index,
     );
-    reading::item_refusal(shape, 1, grade, input)
+    reading::item_refusal(Some(shape), 1, grade, input)
 }
 
 // The canonical at the front of the input, filled into the row.
@@ -146,11 +130,8 @@ pub fn read_canonical(input: &[u8], grade: u32, row: &mut [u32]) -> Read
     let class = canonicals::class_of(kind);
     let lead = fields::grade_of(Site::CanonLead, first);
     if reading::is_within(lead, grade, input) {
-        match read_class(class, kind, grade, &input[0..], row) {
-            Tried::Item(words, took) => {
-                return Read::Item(words, took);
-            }
-            Tried::Not => {}
+        if let Some(item) = read_class(class, kind, grade, input, row) {
+            return Ok(item);
         }
     }
     reading::item_refusal(canonicals::shape_of(kind), lead, grade, input)

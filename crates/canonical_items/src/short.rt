@@ -1,5 +1,5 @@
 // Canonicals with at most two words behind the kind, read once: where one ends and its words, by value, and then stored.
-ghost use Rattle.std.specs.Prelude.{ℕ, ◌<◌, ◌≤◌, ◌∷◌, [], ◌≡◌, length, drop};
+ghost use Rattle.std.specs.Prelude.{ℕ, ◌≤◌, ◌∷◌, [], ◌≡◌, length, drop};
 ghost use Rattle.fields.specs.Limits.{input_bytes};
 ghost use Rattle.reading.specs.Fill.{fill};
 ghost use Rattle.reading.specs.Scan.{scan};
@@ -7,8 +7,9 @@ ghost use Rattle.reading.specs.inside.Steps.{scans, fills};
 ghost use Rattle.reading.specs.inside.Tried.{left_tried};
 ghost use Rattle.canonical_items.specs.inside.Short.{field_of, Stepped, either_step, Told, stored};
 
+use fields::Extent;
 use numbers::seen_unsigned;
-use reading::{Pair, Tried};
+use reading::Pair;
 
 // A field of at most one word.
 #[derive(Clone, Copy)]
@@ -19,7 +20,7 @@ pub enum Short {
     Rep,
 }
 
-// The place past a field, 0 where it is not right, and its word.
+// The place past a field, and its word.
 #[derive(Clone, Copy)]
 pub struct Step {
     pub next: usize,
@@ -27,50 +28,46 @@ pub struct Step {
 }
 
 // One of two bytes, at `at` of the input.
-fn either(a: u8, b: u8, at: usize, input: &[u8]) -> Step
+fn either(a: u8, b: u8, at: usize, input: &[u8]) -> Option<Step>
     requires { (length input.now ≤ input_bytes) × (at ≤ length input.now) }
     ensures { result ≡ either_step a b at (drop at input.now) }
 {
     if at < input.len() {
         if input[at] == a {
-            return Step {
+            return Some(Step {
                 next: at + 1,
                 value: 0,
-            };
+            });
         }
         if input[at] == b {
-            return Step {
+            return Some(Step {
                 next: at + 1,
                 value: 1,
-            };
+            });
         }
     }
-    Step { next: 0, value: 0 }
+    None
 }
 
 // An index, at `at` of the input.
-fn index(at: usize, input: &[u8]) -> Step
+fn index(at: usize, input: &[u8]) -> Option<Step>
     requires { (length input.now ≤ input_bytes) × (at ≤ length input.now) }
     ensures { (g : ℕ) → Stepped at (scan 1 g (field_of Short.Index) (drop at input.now)) (fill g (field_of Short.Index) at (drop at input.now)) result }
 {
-    let one = seen_unsigned(&input[at..]);
-    let took = one.took;
-    if 0 < took {
-        return Step {
-            next: at + took,
-            value: one.value,
-        };
-    }
-    Step { next: 0, value: 0 }
+    let one = seen_unsigned(&input[at..])?;
+    Some(Step {
+        next: at + one.took,
+        value: one.value,
+    })
 }
 
 // A field, at `at` of the input.
-fn take_step(f: Short, at: usize, input: &[u8]) -> Step
+fn take_step(f: Short, at: usize, input: &[u8]) -> Option<Step>
     requires { (length input.now ≤ input_bytes) × (at ≤ length input.now) }
     ensures { (g : ℕ) → 1 ≤ g → Stepped at (scan 1 g (field_of f) (drop at input.now)) (fill g (field_of f) at (drop at input.now)) result }
 {
     match f {
-        Short::Nothing => Step { next: at, value: 0 },
+        Short::Nothing => Some(Step { next: at, value: 0 }),
         Short::Index => index(at, input),
         Short::Flag => either(0x00, 0x01, at, input),
         Short::Rep => either(0x7f, 0x7e, at, input),
@@ -78,45 +75,34 @@ fn take_step(f: Short, at: usize, input: &[u8]) -> Step
 }
 
 // Two fields, the first at `from`.
-pub fn short_item(f: Short, h: Short, from: usize, input: &[u8]) -> Pair
-    requires { (length input.now ≤ input_bytes) × (0 < from) × (from ≤ length input.now) }
+pub fn short_item(f: Short, h: Short, from: usize, input: &[u8]) -> Option<Pair>
+    requires { (length input.now ≤ input_bytes) × (from ≤ length input.now) }
     ensures { (g : ℕ) → 1 ≤ g → Told f h (scans g input.now (field_of f ∷ field_of h ∷ []) from 1) (fills g input.now (field_of f ∷ field_of h ∷ []) from) result }
 {
-    let one = take_step(f, from, input);
-    let next = one.next;
-    if 0 < next {
-        let two = take_step(h, next, input);
-        return Pair {
-            took: two.next,
-            a: one.value,
-            b: two.value,
-        };
-    }
-    Pair {
-        took: 0,
-        a: 0,
-        b: 0,
-    }
+    let one = take_step(f, from, input)?;
+    let two = take_step(h, one.next, input)?;
+    Some(Pair {
+        took: two.next,
+        a: one.value,
+        b: two.value,
+    })
 }
 
 // An item stored, where there is one and it has room.
-pub fn store_short(kind: u32, words: usize, item: Pair, row: &mut [u32]) -> Tried
+pub fn store_short(kind: u32, words: usize, item: Option<Pair>, row: &mut [u32]) -> Option<Extent>
     requires { (1 ≤ words) × (words ≤ 3) }
     ensures { left_tried result row.new ≡ stored kind words item row.old }
 {
-    let took = item.took;
-    if took == 0 {
-        return Tried::Not;
-    }
+    let Pair { took, a, b } = item?;
     if row.len() < words {
-        return Tried::Not;
+        return None;
     }
     row[0] = kind;
     if 1 < words {
-        row[1] = item.a;
+        row[1] = a;
     }
     if 2 < words {
-        row[2] = item.b;
+        row[2] = b;
     }
-    Tried::Item(words, took)
+    Some(Extent { words, took })
 }

@@ -1,5 +1,7 @@
 -- Straight code by class: a row that was seen to be right has its size, one that has a size is right and has its bytes, and these stored are
 -- the row written.
+use Rattle.std.specs.Prelude.{Option, Some, None, IfSome, Ok}
+use Rattle.std.proofs.lemmas.Option.{IfSome_then}
 use Prim.Native.Nat.{ℕ, zero, suc, ◌+◌, ◌-◌, ◌*◌, ◌≤◌, ◌<◌}
 use native.Mathlib.Omega.{arith}
 use mathlib.Core.Path.{◌≡◌, refl, sym, ap, subst, ◌∙◌}
@@ -12,14 +14,13 @@ use lib.Seq.{sets}
 use Rattle.numbers.specs.Bytes as bytes
 use Rattle.numbers.specs.Bytes.{store}
 use Rattle.numbers.specs.Leb.{unsigned}
-use Rattle.numbers.specs.declared.bytes.Stored.{Stored}
+use Rattle.numbers.specs.Stored.{Stored}
 use Rattle.numbers.proofs.LebLaws.{size_bounds}
-use Rattle.fields.specs.declared.Answer.TheVariants.{Size, Refused}
+use Rattle.fields.specs.Answer.{Refused}
 use Rattle.fields.specs.declared.Field.{Field}
 use Rattle.fields.specs.declared.Field.TheVariants as field
-use Rattle.fields.specs.declared.Flaw.TheVariants.{Right, Wrong}
+use Rattle.fields.specs.Flaw.{Right, Wrong}
 use Rattle.fields.specs.declared.Refusal.TheVariants.{Tag, Room}
-use Rattle.fields.specs.declared.Found.TheVariants.{Is, Not}
 use Rattle.writing.specs.Binary as binary
 use Rattle.fields.specs.Words.{word, indexed, wide}
 use Rattle.writing.specs.Binary.{flag, representation, canonopt}
@@ -47,21 +48,25 @@ use Rattle.numbers.proofs.Impossible.{impossible}
 
 -- ---- storing
 
-pub put_none : {c : Class} {lead : ℕ} {row out : List ℕ} {at : ℕ} → Put c lead row out at 0 out
-put_none =
-    record { none = λ e. refl; seen = λ h. absurd (omega arith); room = λ h. absurd (omega arith); content = λ h. absurd (omega arith) }
+pub put_none : {c : Class} {lead : ℕ} {row out : List ℕ} {at : ℕ} → Put c lead row out at None out
+put_none = record { none = λ e. refl; seen = λ n e. impossible cc; room = λ n e. impossible cc; content = λ n e. impossible cc }
 
 -- a row that was seen to be right, where its bytes have room
-module _ (out : List ℕ) (at : ℕ) {c : Class} {row : List ℕ} {r : ℕ} (s : 0 < r → Known c row r) {b : Bool}
+module _ (out : List ℕ) (at : ℕ) {c : Class} {row : List ℕ} {r : ℕ} (known : Known c row r) {b : Bool}
     (e : b ≡ within r at (length out)) (t : b ≡ true) where
-  fit : (0 < r) × (at + r ≤ length out)
-  fit = within-fits r at (length out) (sym e ∙ t)
+  fit : at + r ≤ length out
+  fit = (within-fits r at (length out) (sym e ∙ t)).1
 
   pub put_room : Good c row × (at + size_for c row ≤ length out)
-  put_room = let q = s fit.0 in (q.right, omega (arith, q.size, fit.1))
+  put_room = (known.right, omega (arith, known.size, fit))
 
-  pub put_some : (lead : ℕ) {new : List ℕ} → new ≡ sets out at (bytes_for c lead row) → Put c lead row out at r new
-  put_some lead p = record { none = λ z. absurd (omega (arith, fit.0)); seen = s; room = λ k. fit.1; content = λ k. p }
+  pub put_some : (lead : ℕ) {new : List ℕ} → new ≡ sets out at (bytes_for c lead row) → Put c lead row out at (Some r) new
+  put_some lead p = record {
+    none = λ z. impossible cc;
+    seen = λ n q. let same : r ≡ n = cc in subst (λ k. Known c row k) same known;
+    room = λ n q. let same : r ≡ n = cc in omega (arith, fit);
+    content = λ n q. p;
+  }
 
 -- the bytes of the classes, one after the other
 module _ (lead : ℕ) (out : List ℕ) (to : ℕ) where
@@ -184,31 +189,48 @@ rights-choices pool (suc n) ws h = (h.0, rights-choices pool n (drop 2 ws) h.1.1
 abbrev pub Going : List ℕ → ℕ → ℕ → ℕ → ℕ → ℕ → ℕ → Type 0
 Going row from n base due at made = group.Going [] one element 6 row from n base due at made
 
+pub going_start : (row : List ℕ) (from n base left : ℕ) → left ≡ n → Going row from n base left from base
+going_start row from n base left e = subst (λ d. Going row from n base d from base) (sym e) (group.going_start [] one element 6 row from n base)
+
 module _ {row : List ℕ} {from n base due at made : ℕ} (g : Going row from n base due at made) where
   pub going_place : at + due * 2 ≡ from + n * 2
   unfolding widths wide
   going_place = g.place
 
-  pub going_next : 0 < due → choice (word row at ∷ word row (at + 1) ∷ []) ≡ Right
-      → {r : ℕ} → r ≡ length (canonopt (word row at) (word row (at + 1))) → r ≤ 6 → Going row from n base (due - 1) (at + 2) (made + r)
+  pub going_next : 0 < due → {r : ℕ} → (choice (word row at ∷ word row (at + 1) ∷ []) ≡ Right) × (r ≡ length (canonopt (word row at) (word row (at + 1))))
+      → r ≤ 6 → (left : ℕ) → left ≡ due - 1 → Going row from n base left (at + 2) (made + r)
   unfolding Rights flaw widths wide
-  going_next h e s b = group.going_next g h (choice_at row at e, (refl, tt)) (s ∙ ap length (canonopt_at row at)) b refl
+  going_next h {r} k b left e =
+      subst (λ d. Going row from n base d (at + 2) (made + r)) (sym e)
+      (group.going_next g h (choice_at row at k.0, (refl, tt)) (k.1 ∙ ap length (canonopt_at row at)) b refl)
 
   pub going_end : due ≤ 0 → Chosen n (drop from row) base made
   unfolding widths wide
   going_end h = let k = group.going_end due g h in record { right = rights-choices [] n (drop from row) k.right; size = k.size }
 
 -- and so the row
-pub optioned-known : (row : List ℕ) (head : ℕ) {a b r : ℕ} → length row ≤ 16384 → length row ≡ 3 + word row 2 * 2 → a ≡ length (unsigned (word row 1))
-    → b ≡ length (unsigned (word row 2)) → Chosen (word row 2) (drop 3 row) (head + a + b) r → Optioned row × (r ≡ head + optioned_size row)
-optioned-known row head short width ea eb c = (record { short = short; width = width; right = c.right }, omega (arith, c.size))
+pub optioned-known : (row : List ℕ) (head : ℕ) {a b : ℕ} (o : Option ℕ) → length row ≤ 16384 → length row ≡ 3 + word row 2 * 2
+    → a ≡ length (unsigned (word row 1)) → b ≡ length (unsigned (word row 2)) → IfSome o (λ r. Chosen (word row 2) (drop 3 row) (head + a + b) r)
+    → IfSome o (λ r. Optioned row × (r ≡ head + optioned_size row))
+optioned-known row head {a} {b} o short width ea eb s =
+    IfSome_then o s (λ r c. (record { short = short; width = width; right = c.right }, omega (arith, c.size)))
+
+-- as a class says it
+pub options_known : {row : List ℕ} {r : ℕ} → Optioned row × (r ≡ 1 + optioned_size row) → Known class.Options row r
+options_known k = record { right = k.0; size = k.1 }
+
+pub zero_options_known : {row : List ℕ} {r : ℕ} → Optioned row × (r ≡ 2 + optioned_size row) → Known class.ZeroOptions row r
+zero_options_known k = record { right = k.0; size = k.1 }
 
 -- `due` options are still to be put
 abbrev pub Putting : List ℕ → ℕ → ℕ → List ℕ → ℕ → ℕ → ℕ → ℕ → List ℕ → Type 0
 Putting row from n old base due at to new = group.Putting [] one element row from n old base due at to new
 
-pub putting_start : (row : List ℕ) (from n : ℕ) (old : List ℕ) (base : ℕ) → Choices n (drop from row) → Putting row from n old base n from base old
-putting_start row from n old base h = group.putting_start [] one element row from n old base (choices-rights [] n (drop from row) h)
+pub putting_start : (row : List ℕ) (from n : ℕ) (old : List ℕ) (base : ℕ) → Choices n (drop from row) → (left : ℕ) → left ≡ n
+    → Putting row from n old base left from base old
+putting_start row from n old base h left e =
+    subst (λ d. Putting row from n old base d from base old) (sym e)
+    (group.putting_start [] one element row from n old base (choices-rights [] n (drop from row) h))
 
 module _ {row : List ℕ} {from n : ℕ} {old : List ℕ} {base due at to : ℕ} {new : List ℕ} (p : Putting row from n old base due at to new) where
   pub putting_place : at + due * 2 ≡ from + n * 2
@@ -224,9 +246,11 @@ module _ {row : List ℕ} {from n : ℕ} {old : List ℕ} {base due at to : ℕ}
       (omega (arith, choice-below (drop at row) t.0.0, first_word row at), omega (arith, t.1, ap length (canonopt_at row at)))
 
   pub putting_next : 0 < due → {next : ℕ} {more : List ℕ} → Wrote new to (canonopt (word row at) (word row (at + 1))) next more
-      → Putting row from n old base (due - 1) (at + 2) next more
+      → (left : ℕ) → left ≡ due - 1 → Putting row from n old base left (at + 2) next more
   unfolding widths wide
-  putting_next h {next} {more} w = group.putting_next p h (subst (λ l. Wrote new to l next more) (canonopt_at row at) w) refl
+  putting_next h {next} {more} w left e =
+      subst (λ d. Putting row from n old base d (at + 2) next more) (sym e)
+      (group.putting_next p h (subst (λ l. Wrote new to l next more) (canonopt_at row at) w) refl)
 
   pub putting_end : due ≤ 0 → Wrote old base (choices n (drop from row)) to new
   unfolding widths wide
@@ -266,7 +290,7 @@ flag_at pool row at h =
 module _ (lead : ℕ) (row pool : List ℕ) (small : length pool ≤ 65536) where
   optioned_right : (byte : Field) (m : ℕ) → wide byte ≡ 0 → ((ws : List ℕ) → flaw pool byte ws ≡ Right)
       → m ≡ length (binary.bytes pool byte (drop 1 row))
-      → Optioned row → measured_row (Is (optioned lead byte)) row pool ≡ Size (1 + m + optioned_size row)
+      → Optioned row → measured_row (Some (optioned lead byte)) row pool ≡ Ok (1 + m + optioned_size row)
   unfolding wide widths flaw binary.bytes
   optioned_right byte m ez always em h =
       many_known (field.Fixed lead) byte field.Index field.Choice field.Nothing field.Nothing refl ez {w = 2} refl row pool (choice_element pool)
@@ -274,7 +298,7 @@ module _ (lead : ℕ) (row pool : List ℕ) (small : length pool ≤ 65536) wher
       (record { right = choices-rights pool (word row 2) (drop 3 row) h.right; size = refl }) (nothing_at pool (drop (3 + word row 2 * 2) row))
       (omega (arith, em))
 
-  class_right : (c : Class) → Good c row → measured_row (shape_for c lead) row pool ≡ Size (size_for c row)
+  class_right : (c : Class) → Good c row → measured_row (shape_for c lead) row pool ≡ Ok (size_for c row)
   unfolding shape_for wide flaw binary.bytes
   class_right class.Nothing h =
       lead_known lead field.Nothing field.Nothing row pool small (omega arith) h (nothing_at pool (drop 1 row))
@@ -334,9 +358,9 @@ module _ (row : List ℕ) where
   size_2 = ap (λ x. length (unsigned x)) at_2
 
 module _ (lead : ℕ) (row pool : List ℕ) {n : ℕ} where
-  optioned_held : (byte : Field) → wide byte ≡ 0 → measured_row (Is (optioned lead byte)) row pool ≡ Size n
+  optioned_held : (byte : Field) → wide byte ≡ 0 → measured_row (Some (optioned lead byte)) row pool ≡ Ok n
       → Optioned row × (n ≡ 1 + length (binary.bytes pool byte (drop 1 row)) + optioned_size row)
-      × (row_bytes (Is (optioned lead byte)) pool row ≡ lead ∷ (binary.bytes pool byte (drop 1 row) ++ optioned_bytes row))
+      × (row_bytes (Some (optioned lead byte)) pool row ≡ lead ∷ (binary.bytes pool byte (drop 1 row) ++ optioned_bytes row))
   unfolding wide widths binary.bytes
   optioned_held byte ez e =
       let h = many_held (field.Fixed lead) byte field.Index field.Choice field.Nothing field.Nothing refl ez {w = 2} refl row pool
@@ -348,7 +372,7 @@ module _ (lead : ℕ) (row pool : List ℕ) {n : ℕ} where
             ++ (unsigned (at_1 row i) ++ (unsigned (word row 2) ++ append-nil (choices (word row 2) (drop 3 row)) i)))),
       )
 
-  class_held : (c : Class) → measured_row (shape_for c lead) row pool ≡ Size n → Held c lead row pool n
+  class_held : (c : Class) → measured_row (shape_for c lead) row pool ≡ Ok n → Held c lead row pool n
   unfolding shape_for wide flaw binary.bytes
   class_held class.Nothing e =
       let h = lead_held lead field.Nothing field.Nothing row pool e in
@@ -410,7 +434,7 @@ module _ (lead : ℕ) (row pool : List ℕ) {n : ℕ} where
   class_held class.ZeroOptions e =
       let h = optioned_held (field.Fixed 0x00) refl e in
       record { right = h.0; size = h.1; some = omega (arith, h.1); made = h.2 }
-  class_held class.Not e = let h = (accepted Not row pool n e).is in impossible cc
+  class_held class.Not e = let h = (accepted None row pool n e).is in impossible cc
 
 -- ---- what straight code answers
 
@@ -423,23 +447,27 @@ pub wrote-told : {c d : Class} → d ≡ c → (lead : ℕ) (row out : List ℕ)
     → new ≡ sets out to (bytes_for d lead row)
 wrote-told e lead row out to p = p ∙ ap (λ k. sets out to (bytes_for k lead row)) (sym e)
 
-pub class_sized : {c d : Class} → d ≡ c → (row pool : List ℕ) {r : ℕ} → length pool ≤ 65536 → Known c row r → (lead : ℕ)
-    → measured_row (shape_for d lead) row pool ≡ Size r
-class_sized {c} e row pool small s lead =
-    ap (λ x. measured_row (shape_for x lead) row pool) e ∙ class_right lead row pool small c s.right ∙ ap Size (sym s.size)
+known_sized : {c d : Class} → d ≡ c → (row pool : List ℕ) {r : ℕ} → length pool ≤ 65536 → Known c row r → (lead : ℕ)
+    → measured_row (shape_for d lead) row pool ≡ Ok r
+known_sized {c} e row pool small s lead =
+    ap (λ x. measured_row (shape_for x lead) row pool) e ∙ class_right lead row pool small c s.right ∙ ap Ok (sym s.size)
 
-pub tried : {c d : Class} → d ≡ c → {lead : ℕ} {row pool old new : List ℕ} {at r : ℕ} → length pool ≤ 65536 → Put c lead row old at r new
-    → Tried (shape_for d lead) row pool old at r new
+pub class_sized : {c d : Class} → d ≡ c → (row pool : List ℕ) (o : Option ℕ) → length pool ≤ 65536 → IfSome o (λ r. Known c row r)
+    → IfSome o (λ r. (lead : ℕ) → measured_row (shape_for d lead) row pool ≡ Ok r)
+class_sized e row pool o small s = IfSome_then o s (λ r k. known_sized e row pool small k)
+
+pub tried : {c d : Class} → d ≡ c → {lead : ℕ} {row pool old new : List ℕ} {at : ℕ} {r : Option ℕ} → length pool ≤ 65536
+    → Put c lead row old at r new → Tried (shape_for d lead) row pool old at r new
 tried {c} {d} e {lead} {row} {pool} {old} {new} {at} {r} small p =
     subst (λ x. Tried (shape_for x lead) row pool old at r new) (sym e) (record {
       none = p.none;
-      some = λ h.
-          let m = class_sized {c = c} refl row pool small (p.seen h) lead in
-          written_answer (shape_for c lead) row pool m old at (p.room h) (p.content h ∙ ap (sets old at) (sym (class_held lead row pool c m).made));
+      some = λ n q.
+          let m = known_sized {c = c} refl row pool small (p.seen n q) lead in
+          written_answer (shape_for c lead) row pool m old at (p.room n q) (p.content n q ∙ ap (sets old at) (sym (class_held lead row pool c m).made));
     })
 
 -- a row that the walk found right, where its bytes have room and where not
-module _ (c : Class) (lead : ℕ) (row pool out : List ℕ) (at : ℕ) {n : ℕ} (e : measured_row (shape_for c lead) row pool ≡ Size n) {b : Bool}
+module _ (c : Class) (lead : ℕ) (row pool out : List ℕ) (at : ℕ) {n : ℕ} (e : measured_row (shape_for c lead) row pool ≡ Ok n) {b : Bool}
     (f : b ≡ within n at (length out)) where
   held : Held c lead row pool n
   held = class_held lead row pool c e
@@ -448,7 +476,7 @@ module _ (c : Class) (lead : ℕ) (row pool out : List ℕ) (at : ℕ) {n : ℕ}
   line_room t = (held.right, omega (arith, held.size, (within-fits n at (length out) (sym f ∙ t)).1))
 
   pub line_written : b ≡ true → {new : List ℕ} → new ≡ sets out at (bytes_for c lead row)
-      → left (Size n) new ≡ write_row (shape_for c lead) row pool out at
+      → left (Ok n) new ≡ write_row (shape_for c lead) row pool out at
   line_written t p =
       written_answer (shape_for c lead) row pool e out at (within-fits n at (length out) (sym f ∙ t)).1 (p ∙ ap (sets out at) (sym held.made))
 

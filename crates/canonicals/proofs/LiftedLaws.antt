@@ -1,4 +1,7 @@
 -- A lift: one that was seen to be right has its size, one that has a size is right, and its parts stored one after the other are the lift written.
+use Rattle.std.specs.Prelude.{Option, Some, None, IfSome, Ok}
+use Rattle.std.proofs.lemmas.Option.{IfSome_then}
+use Rattle.numbers.proofs.Impossible.{impossible}
 use Prim.Native.Nat.{ℕ, ◌+◌, ◌*◌, ◌≤◌, ◌<◌}
 use native.Mathlib.Omega.{arith}
 use mathlib.Core.Path.{◌≡◌, refl, sym, ap, subst, ◌∙◌}
@@ -11,10 +14,9 @@ use lib.Seq.{sets}
 use Rattle.numbers.specs.Bytes as bytes
 use Rattle.numbers.specs.Bytes.{store}
 use Rattle.numbers.specs.Leb.{unsigned}
-use Rattle.numbers.specs.declared.bytes.Stored.{Stored}
-use Rattle.fields.specs.declared.Answer.TheVariants.{Size, Refused}
+use Rattle.numbers.specs.Stored.{Stored}
+use Rattle.fields.specs.Answer.{Refused}
 use Rattle.fields.specs.declared.Field.TheVariants as field
-use Rattle.fields.specs.declared.Found.TheVariants.{Is}
 use Rattle.fields.specs.declared.Refusal.TheVariants.{Room}
 use Rattle.writing.specs.Binary as binary
 use Rattle.fields.specs.Words.{word, wide}
@@ -35,11 +37,11 @@ use Rattle.canonicals.specs.inside.Class.{Choices, choices, Chosen, Lifted, coun
 use Rattle.canonicals.specs.Table.{lift_shape, lift}
 use Rattle.canonicals.proofs.ClassLaws.{one, element, choices-rights, rights-choices}
 
-pub lifted-known : (row pool : List ℕ) {a b c r : ℕ} → length pool ≤ 65536 → length row ≤ 16384 → length row ≡ 4 + word row 3 * 2
+pub lifted-known : (row pool : List ℕ) {a b c : ℕ} (o : Option ℕ) → length pool ≤ 65536 → length row ≤ 16384 → length row ≡ 4 + word row 3 * 2
     → a ≡ length (unsigned (word row 1)) → b ≡ length (unsigned (word row 2)) → c ≡ length (unsigned (word row 3))
-    → Chosen (word row 3) (drop 4 row) (2 + a + b + c) r → Lifted row pool × (r ≡ 2 + lifted_size row)
-lifted-known row pool small short width ea eb ec s =
-    (record { small = small; short = short; width = width; right = s.right }, omega (arith, s.size))
+    → IfSome o (λ r. Chosen (word row 3) (drop 4 row) (2 + a + b + c) r) → IfSome o (λ r. Lifted row pool × (r ≡ 2 + lifted_size row))
+lifted-known row pool {a} {b} {c} o small short width ea eb ec s =
+    IfSome_then o s (λ r k. (record { small = small; short = short; width = width; right = k.right }, omega (arith, k.size)))
 
 -- ---- a lift that is right has its size, and one that has a size is right
 
@@ -69,20 +71,20 @@ lift-length pool k f t n os =
     same = only-groups pool one element (choice_element pool) n os
 
 lift-right : (k f t n : ℕ) (os pool : List ℕ) → Lifted (k ∷ f ∷ t ∷ n ∷ os) pool
-    → measured_row (Is lift_shape) (k ∷ f ∷ t ∷ n ∷ os) pool ≡ Size (2 + lifted_size (k ∷ f ∷ t ∷ n ∷ os))
+    → measured_row (Some lift_shape) (k ∷ f ∷ t ∷ n ∷ os) pool ≡ Ok (2 + lifted_size (k ∷ f ∷ t ∷ n ∷ os))
 unfolding row_width widths wide Rights flaw
 lift-right k f t n os pool h =
     row-known lift_shape pool (k ∷ f ∷ t ∷ n ∷ os) h.small h.short (omega (arith, h.width))
     (refl, (refl, (refl, (refl, (refl, rights_join pool (repeated n one) (field.Nothing ∷ []) os (choices-rights pool n os h.right) (refl, tt))))))
     (sym (lift-length pool k f t n os))
 
-pub lift-sized : (row pool : List ℕ) → Lifted row pool → measured_row (Is lift_shape) row pool ≡ Size (2 + lifted_size row)
+pub lift-sized : (row pool : List ℕ) → Lifted row pool → measured_row (Some lift_shape) row pool ≡ Ok (2 + lifted_size row)
 lift-sized row pool h =
     let e = four_words row (omega (arith, h.width)) in
-    subst (λ r. measured_row (Is lift_shape) r pool ≡ Size (2 + lifted_size r)) (sym e)
+    subst (λ r. measured_row (Some lift_shape) r pool ≡ Ok (2 + lifted_size r)) (sym e)
     (lift-right (word row 0) (word row 1) (word row 2) (word row 3) (drop 4 row) pool (subst (λ r. Lifted r pool) e h))
 
-lift-held : (row pool : List ℕ) {n : ℕ} → measured_row (Is lift_shape) row pool ≡ Size n → Lifted row pool × (n ≡ 2 + lifted_size row)
+lift-held : (row pool : List ℕ) {n : ℕ} → measured_row (Some lift_shape) row pool ≡ Ok n → Lifted row pool × (n ≡ 2 + lifted_size row)
 unfolding row_width widths wide Rights
 lift-held row pool {n} e = go row (row_held lift_shape row pool e)
   where
@@ -135,29 +137,33 @@ module _ (row out : List ℕ) (to : ℕ) {one : List ℕ} {n : ℕ} {q : Stored}
 
 -- ---- what straight code answers
 
-pub lift_none : {row pool out : List ℕ} {at : ℕ} → LiftTried row pool out at 0 out
-lift_none = record { none = λ e. refl; some = λ h. absurd (omega arith) }
+pub lift_none : {row pool out : List ℕ} {at : ℕ} → LiftTried row pool out at None out
+lift_none = record { none = λ e. refl; some = λ n e. impossible cc }
 
 -- a lift that was seen to be right, where its bytes have room
-module _ (out : List ℕ) (at : ℕ) {row pool : List ℕ} {r : ℕ} (s : 0 < r → Lifted row pool × (r ≡ 2 + lifted_size row))
+module _ (out : List ℕ) (at : ℕ) {row pool : List ℕ} {r : ℕ} (known : Lifted row pool × (r ≡ 2 + lifted_size row))
     {b : Bool} (e : b ≡ within r at (length out)) (t : b ≡ true) where
-  fit : (0 < r) × (at + r ≤ length out)
-  fit = within-fits r at (length out) (sym e ∙ t)
+  fit : at + r ≤ length out
+  fit = (within-fits r at (length out) (sym e ∙ t)).1
 
   pub lift_room : (length row ≡ 4 + word row 3 * 2) × Choices (word row 3) (drop 4 row) × (at + (2 + lifted_size row) ≤ length out)
-  lift_room = let q = s fit.0 in (q.0.width, q.0.right, omega (arith, q.1, fit.1))
+  lift_room = (known.0.width, known.0.right, omega (arith, known.1, fit))
 
-  pub lift_tried : {new : List ℕ} → new ≡ sets out at (lift (drop 1 row)) → LiftTried row pool out at r new
+  lift_left : {new : List ℕ} → new ≡ sets out at (lift (drop 1 row))
+      → left (Ok r) new ≡ stored (measured_row (Some lift_shape) row pool) (lift (drop 1 row)) out at
   unfolding stored
-  lift_tried p =
-      let q = s fit.0 in
-      record {
-        none = λ z. absurd (omega (arith, fit.0));
-        some = λ k. rw (lift-sized row pool q.0 ∙ ap Size (sym q.1)) (simp (le-leb _ _ fit.1) (ap (left (Size r)) p));
-      }
+  lift_left p = rw (lift-sized row pool known.0 ∙ ap Ok (sym known.1)) (simp (le-leb _ _ fit) (ap (left (Ok r)) p))
+
+  pub lift_tried : {new : List ℕ} → new ≡ sets out at (lift (drop 1 row)) → LiftTried row pool out at (Some r) new
+  lift_tried {new} p = record {
+    none = λ z. impossible cc;
+    some = λ n q.
+        let same : r ≡ n = cc in
+        subst (λ k. left (Ok k) new ≡ stored (measured_row (Some lift_shape) row pool) (lift (drop 1 row)) out at) same (lift_left p);
+  }
 
 -- a lift that the walk found right, where its bytes have room and where not
-module _ (row pool out : List ℕ) (at : ℕ) {n : ℕ} (e : measured_row (Is lift_shape) row pool ≡ Size n) {b : Bool}
+module _ (row pool out : List ℕ) (at : ℕ) {n : ℕ} (e : measured_row (Some lift_shape) row pool ≡ Ok n) {b : Bool}
     (f : b ≡ within n at (length out)) where
   held : Lifted row pool × (n ≡ 2 + lifted_size row)
   held = lift-held row pool e
@@ -166,11 +172,11 @@ module _ (row pool out : List ℕ) (at : ℕ) {n : ℕ} (e : measured_row (Is li
   held_room t = (held.0.width, held.0.right, omega (arith, held.1, (within-fits n at (length out) (sym f ∙ t)).1))
 
   pub held_written : b ≡ true → {new : List ℕ} → new ≡ sets out at (lift (drop 1 row))
-      → left (Size n) new ≡ stored (measured_row (Is lift_shape) row pool) (lift (drop 1 row)) out at
+      → left (Ok n) new ≡ stored (measured_row (Some lift_shape) row pool) (lift (drop 1 row)) out at
   unfolding stored
-  held_written t p = rw e (simp (le-leb _ _ (within-fits n at (length out) (sym f ∙ t)).1) (ap (left (Size n)) p))
+  held_written t p = rw e (simp (le-leb _ _ (within-fits n at (length out) (sym f ∙ t)).1) (ap (left (Ok n)) p))
 
-  pub held_roomless : b ≡ false → left (Refused Room n) out ≡ stored (measured_row (Is lift_shape) row pool) (lift (drop 1 row)) out at
+  pub held_roomless : b ≡ false → left (Refused Room n) out ≡ stored (measured_row (Some lift_shape) row pool) (lift (drop 1 row)) out at
   unfolding stored
   held_roomless t = rw e (simp (lt-leb _ _ (go (leb (at + n) (length out)) refl)))
     where

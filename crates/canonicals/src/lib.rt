@@ -3,7 +3,7 @@
 
 mod straight;
 
-ghost use Rattle.std.specs.Prelude.{◌%◌, ◌≡◌, drop};
+ghost use Rattle.std.specs.Prelude.{Some, ◌%◌, ◌≡◌, drop};
 ghost use Rattle.writing.specs.Row.{measured_row, write_row};
 ghost use Rattle.fields.specs.Table.{shape_in};
 ghost use Rattle.fields.specs.Answers.{left};
@@ -12,7 +12,7 @@ ghost use Rattle.canonicals.specs.Table.{plain, zeroed, optioned, table, lift_sh
 ghost use Rattle.canonicals.specs.inside.Class.{shape_for};
 ghost use Rattle.canonicals.specs.Write.{shape_of, measured_canonical, write_canonical};
 
-use fields::{Answer, Field, Found, Refusal, Shape};
+use fields::{Answer, Fault, Field, Refusal, Shape};
 
 // What a canonical other than lift has behind its lead.
 #[derive(Clone, Copy)]
@@ -39,15 +39,15 @@ pub enum Class {
 }
 
 // A lead and two fields.
-fn plain_of(lead: u8, first: Field, second: Field) -> Found
-    ensures { result ≡ Found.Is (plain lead first second) }
+fn plain_of(lead: u8, first: Field, second: Field) -> Shape
+    ensures { result ≡ plain lead first second }
 {
     fields::two_of(Field::Fixed(lead), Field::Nothing, first, second)
 }
 
 // A lead, a byte 00 and a field.
-fn zeroed_of(lead: u8, first: Field) -> Found
-    ensures { result ≡ Found.Is (zeroed lead first) }
+fn zeroed_of(lead: u8, first: Field) -> Shape
+    ensures { result ≡ zeroed lead first }
 {
     fields::two_of(
         Field::Fixed(lead),
@@ -58,8 +58,8 @@ fn zeroed_of(lead: u8, first: Field) -> Found
 }
 
 // A lead, perhaps a byte, an index and options.
-fn optioned_of(lead: u8, zero: Field) -> Found
-    ensures { result ≡ Found.Is (optioned lead zero) }
+fn optioned_of(lead: u8, zero: Field) -> Shape
+    ensures { result ≡ optioned lead zero }
 {
     fields::many_of(
         Field::Fixed(lead),
@@ -163,21 +163,22 @@ pub fn class_of(kind: u32) -> Class
 }
 
 // The shape of a class behind a lead.
-fn line_of(class: Class, lead: u8) -> Found
+#[tactic(auto, unfolding(crate::specs::inside::Class::shape_for))]
+fn line_of(class: Class, lead: u8) -> Option<Shape>
     ensures { result ≡ shape_for class lead }
 {
     match class {
-        Class::Nothing => plain_of(lead, Field::Nothing, Field::Nothing),
-        Class::Zero => zeroed_of(lead, Field::Nothing),
-        Class::Index => plain_of(lead, Field::Index, Field::Nothing),
-        Class::ZeroIndex => zeroed_of(lead, Field::Index),
-        Class::Indices => plain_of(lead, Field::Index, Field::Index),
-        Class::Flag => plain_of(lead, Field::Flag, Field::Nothing),
-        Class::IndexFlag => plain_of(lead, Field::Index, Field::Flag),
-        Class::RepIndex => plain_of(lead, Field::Rep, Field::Index),
-        Class::Options => optioned_of(lead, Field::Nothing),
-        Class::ZeroOptions => optioned_of(lead, Field::Fixed(0x00)),
-        Class::Not => Found::Not,
+        Class::Nothing => Some(plain_of(lead, Field::Nothing, Field::Nothing)),
+        Class::Zero => Some(zeroed_of(lead, Field::Nothing)),
+        Class::Index => Some(plain_of(lead, Field::Index, Field::Nothing)),
+        Class::ZeroIndex => Some(zeroed_of(lead, Field::Index)),
+        Class::Indices => Some(plain_of(lead, Field::Index, Field::Index)),
+        Class::Flag => Some(plain_of(lead, Field::Flag, Field::Nothing)),
+        Class::IndexFlag => Some(plain_of(lead, Field::Index, Field::Flag)),
+        Class::RepIndex => Some(plain_of(lead, Field::Rep, Field::Index)),
+        Class::Options => Some(optioned_of(lead, Field::Nothing)),
+        Class::ZeroOptions => Some(optioned_of(lead, Field::Fixed(0x00))),
+        Class::Not => None,
     }
 }
 
@@ -198,11 +199,11 @@ fn lift_shape() -> Shape
 }
 
 // The shape of a kind.
-pub fn shape_of(kind: u32) -> Found
+pub fn shape_of(kind: u32) -> Option<Shape>
     ensures { result ≡ shape_of kind }
 {
     if kind == 256 {
-        return Found::Is(lift_shape());
+        return Some(lift_shape());
     }
     line_of(class_of(kind), (kind % 256) as u8)
 }
@@ -213,50 +214,46 @@ pub fn measure(row: &[u32], pool: &[u8]) -> Answer
 {
     let kind = fields::kind_of(row);
     if kind == 256 {
-        let lifted = straight::lift_size(row, pool);
-        if 0 < lifted {
-            return Answer::Size(lifted);
+        if let Some(lifted) = straight::lift_size(row, pool) {
+            return Ok(lifted);
         }
-        return writing::measure_row(Found::Is(lift_shape()), row, pool);
+        return writing::measure_row(Some(lift_shape()), row, pool);
     }
     let class = class_of(kind);
-    let size = straight::class_size(class, row, pool);
-    if 0 < size {
-        return Answer::Size(size);
+    if let Some(size) = straight::class_size(class, row, pool) {
+        return Ok(size);
     }
     writing::measure_row(line_of(class, (kind % 256) as u8), row, pool)
 }
 
 // A lift judged by the walk, and put where there is room.
 fn write_lift(row: &[u32], pool: &[u8], out: &mut [u8], at: usize) -> Answer
-    ensures { left result out.new ≡ stored (measured_row (Found.Is lift_shape) row.now pool.now) (lift (drop 1 row.now)) out.old at }
+    ensures { left result out.new ≡ stored (measured_row (Some lift_shape) row.now pool.now) (lift (drop 1 row.now)) out.old at }
 {
-    match writing::measure_row(Found::Is(lift_shape()), row, pool) {
-        Answer::Size(lifted) => {
-            if writing::fits(lifted, at, out.len()) {
-                straight::put_lift(row, out, at);
-                return Answer::Size(lifted);
-            }
-            Answer::Refused(Refusal::Room, lifted)
-        }
-        Answer::Refused(why, value) => Answer::Refused(why, value),
+    let lifted = writing::measure_row(Some(lift_shape()), row, pool)?;
+    if writing::fits(lifted, at, out.len()) {
+        straight::put_lift(row, out, at);
+        return Ok(lifted);
     }
+    Err(Fault {
+        why: Refusal::Room,
+        value: lifted,
+    })
 }
 
 // A row of a class judged by the walk, and put where there is room.
 fn write_line(class: Class, lead: u8, row: &[u32], pool: &[u8], out: &mut [u8], at: usize) -> Answer
     ensures { left result out.new ≡ write_row (shape_for class lead) row.now pool.now out.old at }
 {
-    match writing::measure_row(line_of(class, lead), row, pool) {
-        Answer::Size(size) => {
-            if writing::fits(size, at, out.len()) {
-                straight::put_class(class, lead, row, out, at);
-                return Answer::Size(size);
-            }
-            Answer::Refused(Refusal::Room, size)
-        }
-        Answer::Refused(why, value) => Answer::Refused(why, value),
+    let size = writing::measure_row(line_of(class, lead), row, pool)?;
+    if writing::fits(size, at, out.len()) {
+        straight::put_class(class, lead, row, out, at);
+        return Ok(size);
     }
+    Err(Fault {
+        why: Refusal::Room,
+        value: size,
+    })
 }
 
 // A canonical row judged, and written into out from `at` on.
@@ -265,17 +262,15 @@ pub fn write(row: &[u32], pool: &[u8], out: &mut [u8], at: usize) -> Answer
 {
     let kind = fields::kind_of(row);
     if kind == 256 {
-        let lifted = straight::lift_row(row, pool, out, at);
-        if 0 < lifted {
-            return Answer::Size(lifted);
+        if let Some(lifted) = straight::lift_row(row, pool, out, at) {
+            return Ok(lifted);
         }
         return write_lift(row, pool, out, at);
     }
     let class = class_of(kind);
     let lead = (kind % 256) as u8;
-    let size = straight::write_class(class, lead, row, pool, out, at);
-    if 0 < size {
-        return Answer::Size(size);
+    if let Some(size) = straight::write_class(class, lead, row, pool, out, at) {
+        return Ok(size);
     }
     write_line(class, lead, row, pool, out, at)
 }

@@ -1,12 +1,11 @@
-// Straight code by class, and for a lift: the size of a row, 0 where not all of it is seen to be right; a row that is right put where
-// there is room; and both, of which 0 leaves it to the walk to say whether the row is right.
-ghost use Rattle.std.specs.Prelude.{ℕ, ◌<◌, ◌≤◌, ◌+◌, ◌*◌, ◌∷◌, [], ◌≡◌, length, drop};
+// Straight code by class, and for a lift: the size of a row, if all of it is seen to be right; a row that is right put where
+// there is room; and both, of which None leaves it to the walk to say whether the row is right.
+ghost use Rattle.std.specs.Prelude.{ℕ, ◌<◌, ◌≤◌, ◌+◌, ◌*◌, ◌≡◌, IfSome, Ok, [], ◌∷◌, length, drop};
 ghost use Rattle.std.proofs.lemmas.List.Edits.{sets};
-ghost use Rattle.fields.specs.declared.Flaw.TheVariants.{Right};
+ghost use Rattle.fields.specs.Flaw.{Right};
 ghost use Rattle.fields.specs.Words.{word};
 ghost use Rattle.writing.specs.Binary.{flag, representation, canonopt};
 ghost use Rattle.writing.specs.Judge.{choice};
-ghost use Rattle.fields.specs.declared.Answer.TheVariants.{Size};
 ghost use Rattle.writing.specs.Row.{measured_row};
 ghost use Rattle.writing.specs.inside.Wrote.{Wrote};
 ghost use Rattle.writing.specs.inside.Rows.{Tried};
@@ -29,11 +28,13 @@ fn rep_byte(x: u32) -> u8
     if x == 0 { 0x7f } else { 0x7e }
 }
 
+// A class has a function for both passes: with one over `class_size` and `put_class` canonicals take 15 hundredths more to write.
+
 // A lead alone.
-fn nothing_size(row: &[u32]) -> usize
-    ensures { 0 < result → Known Class.Nothing row.now result }
+fn nothing_size(row: &[u32]) -> Option<usize>
+    ensures { IfSome result (λ r. Known Class.Nothing row.now r) }
 {
-    if row.len() == 1 { 1 } else { 0 }
+    if row.len() == 1 { Some(1) } else { None }
 }
 
 fn put_nothing(lead: u8, out: &mut [u8], to: usize)
@@ -43,22 +44,22 @@ fn put_nothing(lead: u8, out: &mut [u8], to: usize)
     out[to] = lead;
 }
 
-fn nothing_row(lead: u8, row: &[u32], out: &mut [u8], at: usize) -> usize
+fn nothing_row(lead: u8, row: &[u32], out: &mut [u8], at: usize) -> Option<usize>
     ensures { Put Class.Nothing lead row.now out.old at result out.new }
 {
-    let size = nothing_size(row);
+    let size = nothing_size(row)?;
     if writing::fits(size, at, out.len()) {
         put_nothing(lead, out, at);
-        return size;
+        return Some(size);
     }
-    0
+    None
 }
 
 // A lead and a byte 00.
-fn zero_size(row: &[u32]) -> usize
-    ensures { 0 < result → Known Class.Zero row.now result }
+fn zero_size(row: &[u32]) -> Option<usize>
+    ensures { IfSome result (λ r. Known Class.Zero row.now r) }
 {
-    if row.len() == 1 { 2 } else { 0 }
+    if row.len() == 1 { Some(2) } else { None }
 }
 
 fn put_zero(lead: u8, out: &mut [u8], to: usize)
@@ -69,25 +70,25 @@ fn put_zero(lead: u8, out: &mut [u8], to: usize)
     out[to + 1] = 0x00;
 }
 
-fn zero_row(lead: u8, row: &[u32], out: &mut [u8], at: usize) -> usize
+fn zero_row(lead: u8, row: &[u32], out: &mut [u8], at: usize) -> Option<usize>
     ensures { Put Class.Zero lead row.now out.old at result out.new }
 {
-    let size = zero_size(row);
+    let size = zero_size(row)?;
     if writing::fits(size, at, out.len()) {
         put_zero(lead, out, at);
-        return size;
+        return Some(size);
     }
-    0
+    None
 }
 
 // An index.
-fn index_size(row: &[u32]) -> usize
-    ensures { 0 < result → Known Class.Index row.now result }
+fn index_size(row: &[u32]) -> Option<usize>
+    ensures { IfSome result (λ r. Known Class.Index row.now r) }
 {
-    if row.len() == 2 {
-        return 1 + numbers::unsigned_size(row[1]);
+    if row.len() != 2 {
+        return None;
     }
-    0
+    Some(1 + numbers::unsigned_size(row[1]))
 }
 
 fn put_index(lead: u8, row: &[u32], out: &mut [u8], to: usize)
@@ -95,28 +96,28 @@ fn put_index(lead: u8, row: &[u32], out: &mut [u8], to: usize)
     ensures { out.new ≡ sets out.old to (bytes_for Class.Index lead row.now) }
 {
     out[to] = lead;
-    numbers::put_unsigned(row[1], to + 1, out);
+    let _ = numbers::put_unsigned(row[1], to + 1, out);
 }
 
-fn index_row(lead: u8, row: &[u32], out: &mut [u8], at: usize) -> usize
+fn index_row(lead: u8, row: &[u32], out: &mut [u8], at: usize) -> Option<usize>
     ensures { Put Class.Index lead row.now out.old at result out.new }
 {
-    let size = index_size(row);
+    let size = index_size(row)?;
     if writing::fits(size, at, out.len()) {
         put_index(lead, row, out, at);
-        return size;
+        return Some(size);
     }
-    0
+    None
 }
 
 // A byte 00 and an index.
-fn zero_index_size(row: &[u32]) -> usize
-    ensures { 0 < result → Known Class.ZeroIndex row.now result }
+fn zero_index_size(row: &[u32]) -> Option<usize>
+    ensures { IfSome result (λ r. Known Class.ZeroIndex row.now r) }
 {
-    if row.len() == 2 {
-        return 2 + numbers::unsigned_size(row[1]);
+    if row.len() != 2 {
+        return None;
     }
-    0
+    Some(2 + numbers::unsigned_size(row[1]))
 }
 
 fn put_zero_index(lead: u8, row: &[u32], out: &mut [u8], to: usize)
@@ -125,28 +126,28 @@ fn put_zero_index(lead: u8, row: &[u32], out: &mut [u8], to: usize)
 {
     out[to] = lead;
     out[to + 1] = 0x00;
-    numbers::put_unsigned(row[1], to + 2, out);
+    let _ = numbers::put_unsigned(row[1], to + 2, out);
 }
 
-fn zero_index_row(lead: u8, row: &[u32], out: &mut [u8], at: usize) -> usize
+fn zero_index_row(lead: u8, row: &[u32], out: &mut [u8], at: usize) -> Option<usize>
     ensures { Put Class.ZeroIndex lead row.now out.old at result out.new }
 {
-    let size = zero_index_size(row);
+    let size = zero_index_size(row)?;
     if writing::fits(size, at, out.len()) {
         put_zero_index(lead, row, out, at);
-        return size;
+        return Some(size);
     }
-    0
+    None
 }
 
 // Two indices.
-fn indices_size(row: &[u32]) -> usize
-    ensures { 0 < result → Known Class.Indices row.now result }
+fn indices_size(row: &[u32]) -> Option<usize>
+    ensures { IfSome result (λ r. Known Class.Indices row.now r) }
 {
-    if row.len() == 3 {
-        return 1 + numbers::unsigned_size(row[1]) + numbers::unsigned_size(row[2]);
+    if row.len() != 3 {
+        return None;
     }
-    0
+    Some(1 + numbers::unsigned_size(row[1]) + numbers::unsigned_size(row[2]))
 }
 
 fn put_indices(lead: u8, row: &[u32], out: &mut [u8], to: usize)
@@ -154,32 +155,31 @@ fn put_indices(lead: u8, row: &[u32], out: &mut [u8], to: usize)
     ensures { out.new ≡ sets out.old to (bytes_for Class.Indices lead row.now) }
 {
     out[to] = lead;
-    numbers::put_unsigned(row[1], to + 1, out);
+    let _ = numbers::put_unsigned(row[1], to + 1, out);
     let next = to + 1 + numbers::unsigned_size(row[1]);
-    numbers::put_unsigned(row[2], next, out);
+    let _ = numbers::put_unsigned(row[2], next, out);
 }
 
-fn indices_row(lead: u8, row: &[u32], out: &mut [u8], at: usize) -> usize
+fn indices_row(lead: u8, row: &[u32], out: &mut [u8], at: usize) -> Option<usize>
     ensures { Put Class.Indices lead row.now out.old at result out.new }
 {
-    let size = indices_size(row);
+    let size = indices_size(row)?;
     if writing::fits(size, at, out.len()) {
         put_indices(lead, row, out, at);
-        return size;
+        return Some(size);
     }
-    0
+    None
 }
 
 // A flag.
-fn flag_size(row: &[u32]) -> usize
-    ensures { 0 < result → Known Class.Flag row.now result }
+fn flag_size(row: &[u32]) -> Option<usize>
+    ensures { IfSome result (λ r. Known Class.Flag row.now r) }
 {
-    if row.len() == 2 {
-        if row[1] < 2 {
-            return 2;
-        }
+    if row.len() == 2 && row[1] < 2 {
+        Some(2)
+    } else {
+        None
     }
-    0
 }
 
 fn put_flag(lead: u8, row: &[u32], out: &mut [u8], to: usize)
@@ -190,27 +190,25 @@ fn put_flag(lead: u8, row: &[u32], out: &mut [u8], to: usize)
     out[to + 1] = flag_byte(row[1]);
 }
 
-fn flag_row(lead: u8, row: &[u32], out: &mut [u8], at: usize) -> usize
+fn flag_row(lead: u8, row: &[u32], out: &mut [u8], at: usize) -> Option<usize>
     ensures { Put Class.Flag lead row.now out.old at result out.new }
 {
-    let size = flag_size(row);
+    let size = flag_size(row)?;
     if writing::fits(size, at, out.len()) {
         put_flag(lead, row, out, at);
-        return size;
+        return Some(size);
     }
-    0
+    None
 }
 
 // An index and a flag.
-fn index_flag_size(row: &[u32]) -> usize
-    ensures { 0 < result → Known Class.IndexFlag row.now result }
+fn index_flag_size(row: &[u32]) -> Option<usize>
+    ensures { IfSome result (λ r. Known Class.IndexFlag row.now r) }
 {
-    if row.len() == 3 {
-        if row[2] < 2 {
-            return 2 + numbers::unsigned_size(row[1]);
-        }
+    if row.len() != 3 || 2 <= row[2] {
+        return None;
     }
-    0
+    Some(2 + numbers::unsigned_size(row[1]))
 }
 
 fn put_index_flag(lead: u8, row: &[u32], out: &mut [u8], to: usize)
@@ -218,32 +216,30 @@ fn put_index_flag(lead: u8, row: &[u32], out: &mut [u8], to: usize)
     ensures { out.new ≡ sets out.old to (bytes_for Class.IndexFlag lead row.now) }
 {
     out[to] = lead;
-    numbers::put_unsigned(row[1], to + 1, out);
+    let _ = numbers::put_unsigned(row[1], to + 1, out);
     let next = to + 1 + numbers::unsigned_size(row[1]);
     out[next] = flag_byte(row[2]);
 }
 
-fn index_flag_row(lead: u8, row: &[u32], out: &mut [u8], at: usize) -> usize
+fn index_flag_row(lead: u8, row: &[u32], out: &mut [u8], at: usize) -> Option<usize>
     ensures { Put Class.IndexFlag lead row.now out.old at result out.new }
 {
-    let size = index_flag_size(row);
+    let size = index_flag_size(row)?;
     if writing::fits(size, at, out.len()) {
         put_index_flag(lead, row, out, at);
-        return size;
+        return Some(size);
     }
-    0
+    None
 }
 
 // A representation and an index.
-fn rep_index_size(row: &[u32]) -> usize
-    ensures { 0 < result → Known Class.RepIndex row.now result }
+fn rep_index_size(row: &[u32]) -> Option<usize>
+    ensures { IfSome result (λ r. Known Class.RepIndex row.now r) }
 {
-    if row.len() == 3 {
-        if row[1] < 2 {
-            return 2 + numbers::unsigned_size(row[2]);
-        }
+    if row.len() != 3 || 2 <= row[1] {
+        return None;
     }
-    0
+    Some(2 + numbers::unsigned_size(row[2]))
 }
 
 fn put_rep_index(lead: u8, row: &[u32], out: &mut [u8], to: usize)
@@ -252,34 +248,34 @@ fn put_rep_index(lead: u8, row: &[u32], out: &mut [u8], to: usize)
 {
     out[to] = lead;
     out[to + 1] = rep_byte(row[1]);
-    numbers::put_unsigned(row[2], to + 2, out);
+    let _ = numbers::put_unsigned(row[2], to + 2, out);
 }
 
-fn rep_index_row(lead: u8, row: &[u32], out: &mut [u8], at: usize) -> usize
+fn rep_index_row(lead: u8, row: &[u32], out: &mut [u8], at: usize) -> Option<usize>
     ensures { Put Class.RepIndex lead row.now out.old at result out.new }
 {
-    let size = rep_index_size(row);
+    let size = rep_index_size(row)?;
     if writing::fits(size, at, out.len()) {
         put_rep_index(lead, row, out, at);
-        return size;
+        return Some(size);
     }
-    0
+    None
 }
 
 // One option.
-fn option_size(k: u32, x: u32) -> usize
-    ensures x_value { 0 < result → (choice (k ∷ x ∷ []) ≡ Right) × (result ≡ length (canonopt k x)) }
-    ensures upper_bound { result ≤ 6 }
+fn option_size(k: u32, x: u32) -> Option<usize>
+    ensures x_value { IfSome result (λ r. (choice (k ∷ x ∷ []) ≡ Right) × (r ≡ length (canonopt k x))) }
+    ensures upper_bound { IfSome result (λ r. r ≤ 6) }
 {
     if k < 10 {
         if is_indexed(k) {
-            return 1 + numbers::unsigned_size(x);
+            return Some(1 + numbers::unsigned_size(x));
         }
         if x == 0 {
-            return 1;
+            return Some(1);
         }
     }
-    0
+    None
 }
 
 fn put_option(k: u32, x: u32, out: &mut [u8], to: usize) -> usize
@@ -288,30 +284,24 @@ fn put_option(k: u32, x: u32, out: &mut [u8], to: usize) -> usize
 {
     out[to] = k as u8;
     if is_indexed(k) {
-        numbers::put_unsigned(x, to + 1, out);
+        let _ = numbers::put_unsigned(x, to + 1, out);
         return to + 1 + numbers::unsigned_size(x);
     }
     to + 1
 }
 
-// `base` and the bytes of n options, whose words stand from `from` on; 0 where one is not right.
-fn options_size(row: &[u32], from: usize, n: usize, base: usize) -> usize
+// `base` and the bytes of n options, whose words stand from `from` on, if each is right.
+fn options_size(row: &[u32], from: usize, n: usize, base: usize) -> Option<usize>
     requires { (from + n * 2 ≤ length row.now) × (length row.now ≤ row_words) × (base ≤ 32) }
-    ensures { 0 < result → Chosen n (drop from row.now) base result }
+    ensures { IfSome result (λ r. Chosen n (drop from row.now) base r) }
 {
     let mut at = from;
     let mut made = base;
-    let mut due = n;
-    while 0 < due {
-        let one = option_size(row[at], row[at + 1]);
-        if one == 0 {
-            return 0;
-        }
-        made += one;
+    for _ in 0..n {
+        made += option_size(row[at], row[at + 1])?;
         at += 2;
-        due -= 1;
     }
-    made
+    Some(made)
 }
 
 fn put_options(row: &[u32], from: usize, n: usize, out: &mut [u8], base: usize) -> usize
@@ -320,41 +310,36 @@ fn put_options(row: &[u32], from: usize, n: usize, out: &mut [u8], base: usize) 
 {
     let mut at = from;
     let mut to = base;
-    let mut due = n;
-    while 0 < due {
+    for _ in 0..n {
         to = put_option(row[at], row[at + 1], out, to);
         at += 2;
-        due -= 1;
     }
     to
 }
 
 // An index and options, behind `head` bytes.
-fn optioned_size(row: &[u32], head: usize) -> usize
+fn optioned_size(row: &[u32], head: usize) -> Option<usize>
     requires { (1 ≤ head) × (head ≤ 2) }
-    ensures { 0 < result → Optioned row.now × (result ≡ head + optioned_size row.now) }
+    ensures { IfSome result (λ r. Optioned row.now × (r ≡ head + optioned_size row.now)) }
 {
-    if row.len() < 3 {
-        return 0;
-    }
-    if ROW_WORDS < row.len() {
-        return 0;
+    if row.len() < 3 || ROW_WORDS < row.len() {
+        return None;
     }
     let n = row[2] as usize;
-    if row.len() == 3 + n * 2 {
-        let base = head + numbers::unsigned_size(row[1]) + numbers::unsigned_size(row[2]);
-        return options_size(row, 3, n, base);
+    if row.len() != 3 + n * 2 {
+        return None;
     }
-    0
+    let base = head + numbers::unsigned_size(row[1]) + numbers::unsigned_size(row[2]);
+    options_size(row, 3, n, base)
 }
 
 fn put_optioned(row: &[u32], out: &mut [u8], to: usize)
     requires { Optioned row.now × (to + optioned_size row.now ≤ length out.old) }
     ensures { out.new ≡ sets out.old to (optioned_bytes row.now) }
 {
-    numbers::put_unsigned(row[1], to, out);
+    let _ = numbers::put_unsigned(row[1], to, out);
     let second = to + numbers::unsigned_size(row[1]);
-    numbers::put_unsigned(row[2], second, out);
+    let _ = numbers::put_unsigned(row[2], second, out);
     let third = second + numbers::unsigned_size(row[2]);
     put_options(row, 3, row[2] as usize, out, third);
 }
@@ -367,15 +352,15 @@ fn put_lead_options(lead: u8, row: &[u32], out: &mut [u8], to: usize)
     put_optioned(row, out, to + 1);
 }
 
-fn options_row(lead: u8, row: &[u32], out: &mut [u8], at: usize) -> usize
+fn options_row(lead: u8, row: &[u32], out: &mut [u8], at: usize) -> Option<usize>
     ensures { Put Class.Options lead row.now out.old at result out.new }
 {
-    let size = optioned_size(row, 1);
+    let size = optioned_size(row, 1)?;
     if writing::fits(size, at, out.len()) {
         put_lead_options(lead, row, out, at);
-        return size;
+        return Some(size);
     }
-    0
+    None
 }
 
 fn put_zero_options(lead: u8, row: &[u32], out: &mut [u8], to: usize)
@@ -387,23 +372,23 @@ fn put_zero_options(lead: u8, row: &[u32], out: &mut [u8], to: usize)
     put_optioned(row, out, to + 2);
 }
 
-fn zero_options_row(lead: u8, row: &[u32], out: &mut [u8], at: usize) -> usize
+fn zero_options_row(lead: u8, row: &[u32], out: &mut [u8], at: usize) -> Option<usize>
     ensures { Put Class.ZeroOptions lead row.now out.old at result out.new }
 {
-    let size = optioned_size(row, 2);
+    let size = optioned_size(row, 2)?;
     if writing::fits(size, at, out.len()) {
         put_zero_options(lead, row, out, at);
-        return size;
+        return Some(size);
     }
-    0
+    None
 }
 
-// The size of a row of a class, if all of it is seen to be right, else 0.
-pub fn class_size(class: Class, row: &[u32], pool: &[u8]) -> usize
-    ensures { 0 < result → (lead : ℕ) → measured_row (shape_for class lead) row.now pool.now ≡ Size result }
+// The size of a row of a class, if all of it is seen to be right.
+pub fn class_size(class: Class, row: &[u32], pool: &[u8]) -> Option<usize>
+    ensures { IfSome result (λ r. (lead : ℕ) → measured_row (shape_for class lead) row.now pool.now ≡ Ok r) }
 {
     if POOL_BYTES < pool.len() {
-        return 0;
+        return None;
     }
     match class {
         Class::Nothing => nothing_size(row),
@@ -416,7 +401,7 @@ pub fn class_size(class: Class, row: &[u32], pool: &[u8]) -> usize
         Class::RepIndex => rep_index_size(row),
         Class::Options => optioned_size(row, 1),
         Class::ZeroOptions => optioned_size(row, 2),
-        Class::Not => 0,
+        Class::Not => None,
     }
 }
 
@@ -440,7 +425,7 @@ pub fn put_class(class: Class, lead: u8, row: &[u32], out: &mut [u8], to: usize)
     }
 }
 
-// A row of a class, if all of it is seen to be right and there is room; its size, or 0 where nothing was done.
+// A row of a class, if all of it is seen to be right and there is room; its size, if it was done.
 pub fn write_class(
     class: Class,
     lead: u8,
@@ -448,11 +433,11 @@ pub fn write_class(
     pool: &[u8],
     out: &mut [u8],
     at: usize,
-) -> usize
+) -> Option<usize>
     ensures { Tried (shape_for class lead) row.now pool.now out.old at result out.new }
 {
     if POOL_BYTES < pool.len() {
-        return 0;
+        return None;
     }
     match class {
         Class::Nothing => nothing_row(lead, row, out, at),
@@ -465,32 +450,26 @@ pub fn write_class(
         Class::RepIndex => rep_index_row(lead, row, out, at),
         Class::Options => options_row(lead, row, out, at),
         Class::ZeroOptions => zero_options_row(lead, row, out, at),
-        Class::Not => 0,
+        Class::Not => None,
     }
 }
 
 // A lift, seen in the order of its words: function, type, count and options.
-pub fn lift_size(row: &[u32], pool: &[u8]) -> usize
-    ensures { 0 < result → Lifted row.now pool.now × (result ≡ 2 + lifted_size row.now) }
+pub fn lift_size(row: &[u32], pool: &[u8]) -> Option<usize>
+    ensures { IfSome result (λ r. Lifted row.now pool.now × (r ≡ 2 + lifted_size row.now)) }
 {
-    if row.len() < 4 {
-        return 0;
-    }
-    if ROW_WORDS < row.len() {
-        return 0;
-    }
-    if POOL_BYTES < pool.len() {
-        return 0;
+    if row.len() < 4 || ROW_WORDS < row.len() || POOL_BYTES < pool.len() {
+        return None;
     }
     let n = row[3] as usize;
-    if row.len() == 4 + n * 2 {
-        let base = 2
-            + numbers::unsigned_size(row[1])
-            + numbers::unsigned_size(row[2])
-            + numbers::unsigned_size(row[3]);
-        return options_size(row, 4, n, base);
+    if row.len() != 4 + n * 2 {
+        return None;
     }
-    0
+    let base = 2
+        + numbers::unsigned_size(row[1])
+        + numbers::unsigned_size(row[2])
+        + numbers::unsigned_size(row[3]);
+    options_size(row, 4, n, base)
 }
 
 // Its count and options.
@@ -498,7 +477,7 @@ fn put_counted(row: &[u32], out: &mut [u8], to: usize) -> usize
     requires { (length row.now ≡ 4 + word row.now 3 * 2) × Choices (word row.now 3) (drop 4 row.now) × (to + counted_size row.now ≤ length out.old) }
     ensures { Wrote out.old to (counted_bytes row.now) result out.new }
 {
-    numbers::put_unsigned(row[3], to, out);
+    let _ = numbers::put_unsigned(row[3], to, out);
     let next = to + numbers::unsigned_size(row[3]);
     put_options(row, 4, row[3] as usize, out, next)
 }
@@ -510,20 +489,20 @@ pub fn put_lift(row: &[u32], out: &mut [u8], to: usize)
 {
     out[to] = 0x00;
     out[to + 1] = 0x00;
-    numbers::put_unsigned(row[1], to + 2, out);
+    let _ = numbers::put_unsigned(row[1], to + 2, out);
     let next = to + 2 + numbers::unsigned_size(row[1]);
     let last = put_counted(row, out, next);
-    numbers::put_unsigned(row[2], last, out);
+    let _ = numbers::put_unsigned(row[2], last, out);
 }
 
-// A lift, if all of it is seen to be right and there is room; its size, or 0 where nothing was done.
-pub fn lift_row(row: &[u32], pool: &[u8], out: &mut [u8], at: usize) -> usize
+// A lift, if all of it is seen to be right and there is room; its size, if it was done.
+pub fn lift_row(row: &[u32], pool: &[u8], out: &mut [u8], at: usize) -> Option<usize>
     ensures { LiftTried row.now pool.now out.old at result out.new }
 {
-    let size = lift_size(row, pool);
+    let size = lift_size(row, pool)?;
     if writing::fits(size, at, out.len()) {
         put_lift(row, out, at);
-        return size;
+        return Some(size);
     }
-    0
+    None
 }

@@ -1,4 +1,5 @@
 -- Bad versions fall at one small input each: what the contract names is computed there; a miscount falls wherever it is.
+use Rattle.std.specs.Prelude.{Ok, Err}
 use Prim.Native.Nat.{ℕ, zero, suc, ◌+◌, ◌≤◌, ◌<◌}
 use native.Mathlib.Nat.{min-le_left}
 use native.Mathlib.Omega.{arith}
@@ -18,9 +19,8 @@ use Rattle.numbers.specs.Leb.{unsigned, bytes_of, take_in, within32, number_in}
 use Rattle.numbers.specs.Text.{text, rest, step}
 use Rattle.numbers.proofs.BytesLaws.{sets_back}
 use Rattle.numbers.proofs.LebLaws.{one_byte}
-use Rattle.fields.specs.declared.Answer.{Answer}
-use Rattle.fields.specs.declared.Answer.TheVariants.{Size, Refused}
-use Rattle.fields.specs.declared.Read.TheVariants as read
+use Rattle.fields.specs.Answer.{Answer}
+use Rattle.fields.specs.Read as read
 use Rattle.fields.specs.declared.Refusal.{Refusal}
 use Rattle.fields.specs.declared.Refusal.TheVariants as refusal
 use Rattle.writing.specs.Binary.{name, primvaltype, flag, slot_at, slots_at, slots, externname, externdesc, bytes}
@@ -61,8 +61,8 @@ told h f = ∥∥₁_elim h ⊥_prop (λ t. f t.0)
 
 sized_by : (r : Answer) → number_of r ≡ 0 → IsSize r
 unfolding number_of
-sized_by (Size n) e = tt
-sized_by (Refused w n) e = absurd (refusal_number w e)
+sized_by (Ok n) e = tt
+sized_by (Err fault) e = absurd (refusal_number fault.why e)
 
 -- ---- the small inputs
 
@@ -134,35 +134,35 @@ sheeting = (lent string_sheet, (lent_mut (zeros 1), (lent_mut (zeros 4), tt)))
 
 -- ---- what the contracts name there
 
-string-written : write_type string [] (zeros 1) 0 ≡ left (Size 1) (0x73 ∷ [])
+string-written : write_type string [] (zeros 1) 0 ≡ left (Ok 1) (0x73 ∷ [])
 unfolding primvaltype bytes wide flaw judge measured_row row_bytes write_row seq widths row_width shape_in walk outs sized measured stored write_type
 string-written = refl
 
-bool-written : write_type bool [] (zeros 1) 0 ≡ left (Size 1) (0x7f ∷ [])
+bool-written : write_type bool [] (zeros 1) 0 ≡ left (Ok 1) (0x7f ∷ [])
 unfolding primvaltype bytes wide flaw judge measured_row row_bytes write_row seq widths row_width shape_in walk outs sized measured stored write_type
 bool-written = refl
 
-function-written : (i : ℕ) → i ≤ 1 → write_import (function 0 i) (0x66 ∷ []) (zeros 5) 0 ≡ left (Size 5) (function_bytes i)
+function-written : (i : ℕ) → i ≤ 1 → write_import (function 0 i) (0x66 ∷ []) (zeros 5) 0 ≡ left (Ok 5) (function_bytes i)
 unfolding bytes_of text rest step name flag slot_at slots_at slots externname externdesc bytes wide named optional_name reference flaw judge measured_row row_bytes write_row seq widths row_width shape_in walk outs sized measured stored write_import
 function-written zero h = refl
 function-written (suc zero) h = refl
 function-written (suc (suc i)) h = absurd (omega (arith, h))
 
-cancel_written : write_canonical (bare 0x05) [] (zeros 1) 0 ≡ left (Size 1) (0x05 ∷ [])
+cancel_written : write_canonical (bare 0x05) [] (zeros 1) 0 ≡ left (Ok 1) (0x05 ∷ [])
 unfolding bytes wide flaw judge measured_row row_bytes seq widths row_width shape_in walk outs sized measured stored canonical_bytes measured_canonical write_canonical
 cancel_written = refl
 
-drop-written : write_canonical (bare 0x0d) [] (zeros 1) 0 ≡ left (Size 1) (0x0d ∷ [])
+drop-written : write_canonical (bare 0x0d) [] (zeros 1) 0 ≡ left (Ok 1) (0x0d ∷ [])
 unfolding bytes wide flaw judge measured_row row_bytes seq widths row_width shape_in walk outs sized measured stored canonical_bytes measured_canonical write_canonical
 drop-written = refl
 
-core_written : (i : ℕ) → i ≤ 1 → write_core_instance (instance_of 18 i) [] (zeros 3) 0 ≡ left (Size 3) (0x00 ∷ i ∷ 0x00 ∷ [])
+core_written : (i : ℕ) → i ≤ 1 → write_core_instance (instance_of 18 i) [] (zeros 3) 0 ≡ left (Ok 3) (0x00 ∷ i ∷ 0x00 ∷ [])
 unfolding bytes_of bytes wide flaw judge measured_row row_bytes write_row repeated seq widths row_width shape_in view walk outs sized measured stored write_core_instance
 core_written zero h = refl
 core_written (suc zero) h = refl
 core_written (suc (suc i)) h = absurd (omega (arith, h))
 
-instance_written : (i : ℕ) → i ≤ 1 → write_instance (instance_of 19 i) [] (zeros 3) 0 ≡ left (Size 3) (0x00 ∷ i ∷ 0x00 ∷ [])
+instance_written : (i : ℕ) → i ≤ 1 → write_instance (instance_of 19 i) [] (zeros 3) 0 ≡ left (Ok 3) (0x00 ∷ i ∷ 0x00 ∷ [])
 unfolding bytes_of bytes wide flaw judge measured_row row_bytes write_row repeated seq widths row_width shape_in view walk outs sized measured stored write_instance
 instance_written zero h = refl
 instance_written (suc zero) h = refl
@@ -185,7 +185,7 @@ function_read (suc (suc (suc zero))) h k = refl
 function_read (suc (suc (suc (suc g)))) h k = absurd (omega (arith, k))
 
 row_added : rowing begun string [] (0x73 ∷ 0 ∷ [])
-    ≡ turned (gives (record { family = 7; used = 2; count = 2; phase = Closed }) (Size 1)) (0x73 ∷ 0x73 ∷ [])
+    ≡ turned (gives (record { family = 7; used = 2; count = 2; phase = Closed }) (Ok 1)) (0x73 ∷ 0x73 ∷ [])
 unfolding primvaltype bytes wide flaw judge measured_row row_bytes write_row seq widths row_width shape_in walk outs sized measured stored write_type write_family known_family sounds rowing
 row_added = refl
 
@@ -193,7 +193,7 @@ opened-fresh : number_of (opening (fresh 7) []).gave.answer ≡ 0
 unfolding number_of known_family sounds opening
 opened-fresh = refl
 
-finished-begun : finishing begun (0x73 ∷ 0 ∷ []) (zeros 4) ≡ left (Size 4) (7 ∷ 2 ∷ 1 ∷ 0x73 ∷ [])
+finished-begun : finishing begun (0x73 ∷ 0 ∷ []) (zeros 4) ≡ left (Ok 4) (7 ∷ 2 ∷ 1 ∷ 0x73 ∷ [])
 unfolding bytes_of known_family sounds stored framing finishing
 finished-begun = refl
 
@@ -208,11 +208,11 @@ apart : (i : ℕ) {bs cs : List ℕ} → (get_or bs i 0 ≡ get_or cs i 0 → �
 apart i h e = h (ap (λ l. get_or l i 0) e)
 
 -- OK is the number of a size
-ok : {l : Left} {n : ℕ} {bs : List ℕ} → l ≡ left (Size n) bs → number_of l.answer ≡ 0
+ok : {l : Left} {n : ℕ} {bs : List ℕ} → l ≡ left (Ok n) bs → number_of l.answer ≡ 0
 unfolding number_of
 ok e = ap (λ l. number_of l.answer) e
 
-turned_ok : {t : Turn} {s : Section} {n : ℕ} {body : List ℕ} → t ≡ turned (gives s (Size n)) body → number_of t.gave.answer ≡ 0
+turned_ok : {t : Turn} {s : Section} {n : ℕ} {body : List ℕ} → t ≡ turned (gives s (Ok n)) body → number_of t.gave.answer ≡ 0
 unfolding number_of
 turned_ok e = ap (λ t. number_of t.gave.answer) e
 
@@ -224,7 +224,7 @@ names write κs a = let l = write a.0.now a.1.0.now a.1.1.0.now a.1.1.1.0 in (l.
 module _ (write : List ℕ → List ℕ → List ℕ → ℕ → Left) (v : Writer)
     (met : (κs : Lfts 3) (a : Lent × (Lent × (LentMut × (ℕ × Unit {0})))) → Unit {0}
     → (fact w₀.𝓤 (left (v κs a).0 (v κs a).1.1.1.0 ≡ write a.0.now a.1.0.now a.1.1.0.now a.1.1.1.0)).holds w₀.𝓤.one)
-    {row pool out bs : List ℕ} {m : ℕ} (first : write row pool out 0 ≡ left (Size m) bs) where
+    {row pool out bs : List ℕ} {m : ℕ} (first : write row pool out 0 ≡ left (Ok m) bs) where
   writer_refuses : ((κs : Lfts 3) (a : Lent × (Lent × (LentMut × (ℕ × Unit {0})))) → number_of (v κs a).0 ≡ 0 → ⊥) → ⊥
   writer_refuses bad = told (met (lifetimes 3) (writing row pool out) tt) (λ p. bad (lifetimes 3) (writing row pool out) (ok (p ∙ first)))
 
@@ -233,7 +233,7 @@ module _ (write : List ℕ → List ℕ → List ℕ → ℕ → Left) (v : Writ
       told (met (lifetimes 3) (writing row pool out) tt) (λ p.
       some (ap (λ l. l.buffer) (sym (p ∙ first)) ∙ bad (lifetimes 3) (lent row) (lent pool) (lent_mut out) 0 (ok (p ∙ first))))
 
-  writer_same : {other cs : List ℕ} {k : ℕ} → write other pool out 0 ≡ left (Size k) cs → (bs ≡ cs → ⊥) → SameBytes v → ⊥
+  writer_same : {other cs : List ℕ} {k : ℕ} → write other pool out 0 ≡ left (Ok k) cs → (bs ≡ cs → ⊥) → SameBytes v → ⊥
   writer_same {other} second differ bad =
       told (met (lifetimes 3) (writing row pool out) tt) (λ p.
       told (met (lifetimes 3) (writing other pool out) tt) (λ q.
@@ -291,7 +291,7 @@ finish_counts s body out few small =
     whole = framed s.family size s.count (take s.used body)
 
     fits : (b : Bool) → leb (0 + length whole) (length out) ≡ b
-        → Counts s.count (cond b (left (Size (length whole)) (sets out 0 whole)) (refuse refusal.Room (length whole) out))
+        → Counts s.count (cond b (left (Ok (length whole)) (sets out 0 whole)) (refuse refusal.Room (length whole) out))
     fits true e =
         let short : length (take s.used body) ≤ s.used = rw (length-take s.used body) (min-le_left s.used (length body)) in
         let one = ap length (one_byte 128 s.count few) in

@@ -1,4 +1,5 @@
 -- Each item of the bench is written as its bytes, and each reading is refused or taken as it says, by computation.
+use Rattle.std.specs.Prelude.{Ok}
 use Prim.Native.Nat.{ℕ}
 use mathlib.Core.Path.{◌≡◌, refl}
 use mathlib.Core.Bool.{cond}
@@ -6,8 +7,7 @@ use mathlib.Core.List.{List, [], ◌∷◌}
 use lib.ListN.{length, drop}
 use Rattle.numbers.specs.Leb.{bytes_of, take_in, within32, number_in, more}
 use Rattle.numbers.specs.Text.{text, rest, step}
-use Rattle.fields.specs.declared.Answer.TheVariants.{Size}
-use Rattle.fields.specs.declared.Read.TheVariants as read
+use Rattle.fields.specs.Read as read
 use Rattle.writing.specs.Binary.{name, primvaltype, valtype, optional, resultlist, functype, flag, slot_at, slots_at, slots, externname, typebound, externdesc, argument, sortidx, bytes}
 use Rattle.reading.specs.Fill.{primitive, fill_value, fill_name, fill_slot, fill_slots, fill_extern, fill_reference, fill}
 use Rattle.fields.specs.Words.{wide}
@@ -37,7 +37,7 @@ blank (b ∷ bs) = 0 ∷ blank bs
 -- the writer of the item's family puts exactly the bytes into a buffer of their size
 abbrev pub AsWritten : Item → Type 0
 AsWritten i =
-    write_family i.family i.row i.pool (blank i.bytes) 0 ≡ left (Size (length i.bytes)) i.bytes
+    write_family i.family i.row i.pool (blank i.bytes) 0 ≡ left (Ok (length i.bytes)) i.bytes
 
 -- the reader of the family says the number and the place, and leaves every row as it was
 abbrev pub AsRefused : Reading → Type 0

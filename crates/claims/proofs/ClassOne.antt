@@ -1,12 +1,12 @@
 -- The class of a canonical is told by its shape, so no second class has it.
+use Rattle.std.specs.Prelude.{Option, Some, None}
 use Prim.Native.Nat.{ℕ, ◌+◌, ◌*◌}
 use mathlib.Core.Path.{◌≡◌, refl, sym, ◌∙◌, ap}
 use mathlib.Core.Bool.{cond}
 use lib.Dec.{eqb}
 use Rattle.fields.specs.declared.Field.{Field}
 use Rattle.fields.specs.declared.Field.TheVariants as field
-use Rattle.fields.specs.declared.Found.{Found}
-use Rattle.fields.specs.declared.Found.TheVariants.{Is, Not}
+use Rattle.fields.specs.declared.Shape.{Shape}
 use Rattle.canonicals.specs.declared.Class.{Class}
 use Rattle.canonicals.specs.declared.Class.TheVariants as class
 use Rattle.canonicals.specs.inside.Class.{shape_for}
@@ -34,9 +34,9 @@ tag field.CoreSortIndex = 6
 tag field.SortIndex = 6
 
 -- and for a shape
-abbrev key : Found → ℕ
-key (Is s) = 1 + tag s.zero + 20 * tag s.first + 400 * tag s.second + 8000 * tag s.one
-key Not = 0
+abbrev key : Option Shape → ℕ
+key (Some s) = 1 + tag s.zero + 20 * tag s.first + 400 * tag s.second + 8000 * tag s.one
+key None = 0
 
 abbrev class_in : ℕ → Class
 class_in n =

@@ -1,4 +1,5 @@
 -- The proof of `specs/Demand2.antt`: what an accepted row is written as, and a finished section, and a sheet.
+use Rattle.std.specs.Prelude.{Err, Ok}
 use Prim.Native.Nat.{ℕ, ◌+◌, ◌^◌, ◌≤◌, ◌<◌}
 use native.Mathlib.Omega.{arith}
 use mathlib.Core.Path.{◌≡◌, refl, sym, ap, ◌∙◌, subst}
@@ -10,14 +11,13 @@ use lib.ListN.{length, take}
 use lib.Seq.{sets}
 use Rattle.numbers.specs.Bytes.{Bytes}
 use Rattle.numbers.specs.Leb.{unsigned}
-use Rattle.fields.specs.declared.Answer.{Answer}
-use Rattle.fields.specs.declared.Answer.TheVariants.{Size, Refused}
-use Rattle.fields.specs.declared.Leaf.{Leaf}
-use Rattle.fields.specs.declared.Leaf.TheVariants.{Fine, Bad}
+use Rattle.fields.specs.Answer.{Answer, Refused}
+use Rattle.fields.specs.Leaf.{Leaf, Fine, Bad}
 use Rattle.fields.specs.declared.Refusal.{Refusal}
 use Rattle.fields.specs.declared.Refusal.TheVariants as refusal
 use Rattle.fields.specs.Words.{word, Words}
 use Rattle.fields.specs.Answers.{Left, left, refuse}
+use Rattle.fields.proofs.OutcomeLaws.{fine-same}
 use Rattle.writing.specs.Write.{stored}
 use Rattle.writing.proofs.ByteLaws.{ByteList, none, some, append-bytes, to_bytes, of_bytes}
 use Rattle.writing.proofs.WholeLaws.{accepted}
@@ -48,15 +48,15 @@ use Rattle.canonicals.proofs.Productions.{canonicals-agree}
 use Rattle.instances.proofs.Productions.{core_instances-agree, instances-agree}
 
 -- a refusal is no size
-no_size : {X : Type 0} {w : Refusal} {n size : ℕ} → Refused w n ≡ Size size → X
+no_size : {X : Type 0} {w : Refusal} {n size : ℕ} → Refused w n ≡ Ok size → X
 no_size e = impossible cc
 
 -- ---- a row
 
 -- a row that has a size keeps within the limits, and so does its pool
-within : (family : ℕ) (row pool : List ℕ) (size : ℕ) → measured_family family row pool ≡ Size size → (length row ≤ 16384) × (length pool ≤ 65536)
+within : (family : ℕ) (row pool : List ℕ) (size : ℕ) → measured_family family row pool ≡ Ok size → (length row ≤ 16384) × (length pool ≤ 65536)
 within family row pool size e =
-    on_family (λ a. a ≡ Size size → (length row ≤ 16384) × (length pool ≤ 65536)) family row pool
+    on_family (λ a. a ≡ Ok size → (length row ≤ 16384) × (length pool ≤ 65536)) family row pool
     (λ found e. let k = (accepted found row pool size e).sized in (k.short, k.small)) (λ e. no_size e) e
 
 -- a fresh section stands over any body
@@ -74,10 +74,10 @@ stands f n = simp (le-ltb n 0 (omega arith), is_known f)
 
 -- the section after its first row
 abbrev grown : ℕ → ℕ → Turned
-grown family size = gives (record { family = family; used = size; count = 1; phase = Closed }) (Size size)
+grown family size = gives (record { family = family; used = size; count = 1; phase = Closed }) (Ok size)
 
 -- a row that has a size is taken where there is room
-takes : {family : ℕ} → Family family → (row pool body : List ℕ) (size : ℕ) → measured_family family row pool ≡ Size size → size ≤ length body
+takes : {family : ℕ} → Family family → (row pool body : List ℕ) (size : ℕ) → measured_family family row pool ≡ Ok size → size ≤ length body
     → rowing (fresh family) row pool body ≡ turned (grown family size) (sets body 0 (family_bytes family pool row))
 unfolding rowing
 takes {family} f row pool body size e h =
@@ -86,21 +86,21 @@ takes {family} f row pool body size e h =
     let used : 0 + size ≡ size = omega arith in
     simp (stands f (length body), le-ltb _ _ w.0, le-ltb _ _ w.1)
     (ap (λ l. wrote (fresh family) 1 Closed l) (family-written family row pool body 0 size e room)
-    ∙ ap (λ n. turned (gives (record { family = family; used = n; count = 1; phase = Closed }) (Size size)) (sets body 0 (family_bytes family pool row))) used)
+    ∙ ap (λ n. turned (gives (record { family = family; used = n; count = 1; phase = Closed }) (Ok size)) (sets body 0 (family_bytes family pool row))) used)
 
 -- and only such a row
 sized_where_taken : (family : ℕ) (row pool body : List ℕ) → Takes family row pool body
-    → (size : ℕ) × (measured_family family row pool ≡ Size size) × (size ≤ length body)
+    → (size : ℕ) × (measured_family family row pool ≡ Ok size) × (size ≤ length body)
 sized_where_taken family row pool body t =
     let r = row_turns (fresh family) body row pool in
     (length (family_bytes family pool row), accepted_size r t, omega (arith, (accepted_grows r t).room))
 
-taken_where_sized : {family : ℕ} → Family family → (row pool body : List ℕ) (size : ℕ) → measured_family family row pool ≡ Size size
+taken_where_sized : {family : ℕ} → Family family → (row pool body : List ℕ) (size : ℕ) → measured_family family row pool ≡ Ok size
     → size ≤ length body → Takes family row pool body
 taken_where_sized f row pool body size e h = subst Accepted (sym (takes f row pool body size e h)) tt
 
 -- the size is the production's length
-production-size : (family : ℕ) (row pool : List ℕ) (size : ℕ) → measured_family family row pool ≡ Size size → size ≡ length (production family pool row)
+production-size : (family : ℕ) (row pool : List ℕ) (size : ℕ) → measured_family family row pool ≡ Ok size → size ≡ length (production family pool row)
 production-size family row pool size e = family-size family row pool size e ∙ ap length (family-production family row pool size e)
 
 -- so the body begins with the production
@@ -114,14 +114,14 @@ written {family} f row pool body t =
     (sets body 0 (family-production family row pool z.0 z.1 i)))
 
 at_any_place : (family : ℕ) (row pool : List ℕ) → Valid family row pool → (out : List ℕ) (at : ℕ)
-    → write_family family row pool out at ≡ stored (Size (length (production family pool row))) (production family pool row) out at
+    → write_family family row pool out at ≡ stored (Ok (length (production family pool row))) (production family pool row) out at
 at_any_place family row pool v out at =
     let z = sized_where_taken family row pool v.0 v.1 in
     family-stored family row pool out at
-    ∙ (λ i. stored ((z.1 ∙ ap Size (production-size family row pool z.0 z.1)) i) (family-production family row pool z.0 z.1 i) out at)
+    ∙ (λ i. stored ((z.1 ∙ ap Ok (production-size family row pool z.0 z.1)) i) (family-production family row pool z.0 z.1 i) out at)
 
 -- a row that has a size is valid
-valid_where_sized : {family : ℕ} → Family family → (row pool : List ℕ) (size : ℕ) → measured_family family row pool ≡ Size size → Valid family row pool
+valid_where_sized : {family : ℕ} → Family family → (row pool : List ℕ) (size : ℕ) → measured_family family row pool ≡ Ok size → Valid family row pool
 valid_where_sized {family} f row pool size e =
     let body = family_bytes family pool row in
     (body, taken_where_sized f row pool body size e (omega (arith, family-size family row pool size e)))
@@ -148,9 +148,9 @@ all-productions family (e ∷ es) v =
     λ i. family-production family e.row e.pool z.0 z.1 i ++ all-productions family es v.1 i
 
 -- an answer that is a size came past the tests
-framing-made : (family count : ℕ) (body out : List ℕ) (size : ℕ) → (framing family count body out).answer ≡ Size size
+framing-made : (family count : ℕ) (body out : List ℕ) (size : ℕ) → (framing family count body out).answer ≡ Ok size
     → let bytes = framed family (length (unsigned count) + length body) count body in
-    framing family count body out ≡ left (Size (length bytes)) (sets out 0 bytes)
+    framing family count body out ≡ left (Ok (length bytes)) (sets out 0 bytes)
 unfolding framing stored
 framing-made family count body out size e = go (ltb 4294967295 (length (unsigned count) + length body)) (leb (0 + length bytes) (length out)) e
   where
@@ -158,14 +158,14 @@ framing-made family count body out size e = go (ltb 4294967295 (length (unsigned
     bytes = framed family (length (unsigned count) + length body) count body
 
     go : (a b : Bool)
-        → (cond a (refuse refusal.TooBig 0 out) (cond b (left (Size (length bytes)) (sets out 0 bytes)) (refuse refusal.Room (length bytes) out))).answer ≡ Size size
-        → cond a (refuse refusal.TooBig 0 out) (cond b (left (Size (length bytes)) (sets out 0 bytes)) (refuse refusal.Room (length bytes) out))
-        ≡ left (Size (length bytes)) (sets out 0 bytes)
+        → (cond a (refuse refusal.TooBig 0 out) (cond b (left (Ok (length bytes)) (sets out 0 bytes)) (refuse refusal.Room (length bytes) out))).answer ≡ Ok size
+        → cond a (refuse refusal.TooBig 0 out) (cond b (left (Ok (length bytes)) (sets out 0 bytes)) (refuse refusal.Room (length bytes) out))
+        ≡ left (Ok (length bytes)) (sets out 0 bytes)
     go true b e = no_size e
     go false true e = refl
     go false false e = no_size e
 
-finishing-made : (s : Section) (body out : List ℕ) (size : ℕ) → (finishing s body out).answer ≡ Size size
+finishing-made : (s : Section) (body out : List ℕ) (size : ℕ) → (finishing s body out).answer ≡ Ok size
     → finishing s body out ≡ framing s.family s.count (take s.used body) out
 unfolding finishing
 finishing-made s body out size e = go (sounds s (length body)) (opened s.phase) e
@@ -173,7 +173,7 @@ finishing-made s body out size e = go (sounds s (length body)) (opened s.phase) 
     frames : Left
     frames = framing s.family s.count (take s.used body) out
 
-    go : (a b : Bool) → (cond a (cond b (refuse refusal.Order 0 out) frames) (refuse refusal.Limit 0 out)).answer ≡ Size size
+    go : (a b : Bool) → (cond a (cond b (refuse refusal.Order 0 out) frames) (refuse refusal.Limit 0 out)).answer ≡ Ok size
         → cond a (cond b (refuse refusal.Order 0 out) frames) (refuse refusal.Limit 0 out) ≡ frames
     go true true e = no_size e
     go true false e = refl
@@ -181,9 +181,9 @@ finishing-made s body out size e = go (sounds s (length body)) (opened s.phase) 
 
 -- the section at the end is framed over its used part, which is the productions
 finishes : (family : ℕ) → Family family → (es : List Entry) (body out : List ℕ) → AllAccepted (rows es) (fresh family) body → (size : ℕ)
-    → (finishing (runs (rows es) (fresh family) body).section (runs (rows es) (fresh family) body).body out).answer ≡ Size size
+    → (finishing (runs (rows es) (fresh family) body).section (runs (rows es) (fresh family) body).body out).answer ≡ Ok size
     → finishing (runs (rows es) (fresh family) body).section (runs (rows es) (fresh family) body).body out
-    ≡ left (Size (length (section family es))) (sets out 0 (section family es))
+    ≡ left (Ok (length (section family es))) (sets out 0 (section family es))
 finishes family f es body out a size e =
     let b = begun_fresh family es body a in
     let end = runs (rows es) (fresh family) body in
@@ -214,7 +214,7 @@ tried-rows : {family : ℕ} → Family family → (pool : List ℕ) (room : ℕ)
     → tries family pool room rs r used ≡ Fine last end → TriedRows family pool rs r last
 unfolding tries joined productions
 tried-rows f pool room [] r used last end e =
-    let p : r ≡ last = cc in
+    let p = (fine-same e).0 in
     record { count = omega arith; valid = tt; bytes = refl }
 tried-rows {family} f pool room (row ∷ rs) r used last end e =
     go (measured_family family row pool) refl e (λ u. tried-rows f pool room rs (r + 1) u last end)
@@ -222,8 +222,8 @@ tried-rows {family} f pool room (row ∷ rs) r used last end e =
     go : (a : Answer) → measured_family family row pool ≡ a → tried a room used r (λ u. tries family pool room rs (r + 1) u) ≡ Fine last end
         → ((u : ℕ) → tries family pool room rs (r + 1) u ≡ Fine last end → TriedRows family pool rs (r + 1) last)
         → TriedRows family pool (row ∷ rs) r last
-    go (Refused w n) m e ih = impossible cc
-    go (Size size) m e ih = room_for (leb (used + size) room) e
+    go (Err fault) m e ih = impossible cc
+    go (Ok size) m e ih = room_for (leb (used + size) room) e
       where
         room_for : (b : Bool) → cond b (tries family pool room rs (r + 1) (used + size)) (Bad refusal.Room r) ≡ Fine last end
             → TriedRows family pool (row ∷ rs) r last
@@ -237,9 +237,9 @@ tried-rows {family} f pool room (row ∷ rs) r used last end e =
         room_for false e = impossible cc
 
 -- a sheet whose answer is a size has its room
-sheet_finished : (family r : ℕ) (bytes body out : List ℕ) (size : ℕ) → (sheet.finished family r bytes body out).answer ≡ Size size
+sheet_finished : (family r : ℕ) (bytes body out : List ℕ) (size : ℕ) → (sheet.finished family r bytes body out).answer ≡ Ok size
     → let all = sheet.section family r bytes in
-    sheet.finished family r bytes body out ≡ sheet.left (Size (length all)) (sets body 0 bytes) (sets out 0 all)
+    sheet.finished family r bytes body out ≡ sheet.left (Ok (length all)) (sets body 0 bytes) (sets out 0 all)
 unfolding sheet.finished
 sheet_finished family r bytes body out size e = go (leb (length all) (length out)) e
   where
@@ -247,14 +247,14 @@ sheet_finished family r bytes body out size e = go (leb (length all) (length out
     all = sheet.section family r bytes
 
     whole : sheet.Left
-    whole = sheet.left (Size (length all)) (sets body 0 bytes) (sets out 0 all)
+    whole = sheet.left (Ok (length all)) (sets body 0 bytes) (sets out 0 all)
 
-    go : (b : Bool) → (cond b whole (sheet.refuse refusal.Room r body out)).answer ≡ Size size → cond b whole (sheet.refuse refusal.Room r body out) ≡ whole
+    go : (b : Bool) → (cond b whole (sheet.refuse refusal.Room r body out)).answer ≡ Ok size → cond b whole (sheet.refuse refusal.Room r body out) ≡ whole
     go true e = refl
     go false e = no_size e
 
 -- the sheet of these rows
-made-rows : (rs : Rows) (pool body out : List ℕ) (size : ℕ) → (of_rows rs pool body out).answer ≡ Size size
+made-rows : (rs : Rows) (pool body out : List ℕ) (size : ℕ) → (of_rows rs pool body out).answer ≡ Ok size
     → Made (beside pool (listed rs)) body out (of_rows rs pool body out)
 made-rows Broken pool body out size e = no_size e
 made-rows (Are []) pool body out size e = no_size e
@@ -266,15 +266,15 @@ made-rows (Are (row ∷ rs)) pool body out size e = go (tries family pool (lengt
     es : List Entry
     es = beside pool (row ∷ rs)
 
-    go : (l : Leaf) → tries family pool (length body) (row ∷ rs) 0 0 ≡ l → (sheet.written l family (joined family pool (row ∷ rs)) body out).answer ≡ Size size
+    go : (l : Leaf) → tries family pool (length body) (row ∷ rs) 0 0 ≡ l → (sheet.written l family (joined family pool (row ∷ rs)) body out).answer ≡ Ok size
         → Made es body out (sheet.written l family (joined family pool (row ∷ rs)) body out)
-    go (Bad w n) p e = no_size e
-    go (Fine last end) p e =
+    go (Err fault) p e = no_size e
+    go (Ok span) p e =
         let f = every-family (word row 0) in
-        let k = tried-rows f pool (length body) (row ∷ rs) 0 0 last end p in
-        let n : last ≡ length es = omega (arith, k.count) in
-        let whole = sheet_finished family last (joined family pool (row ∷ rs)) body out size e
-        ∙ (λ i. let all = sheet.section family (n i) (k.bytes i) in sheet.left (Size (length all)) (sets body 0 (k.bytes i)) (sets out 0 all)) in
+        let k = tried-rows f pool (length body) (row ∷ rs) 0 0 span.took span.made p in
+        let n : span.took ≡ length es = omega (arith, k.count) in
+        let whole = sheet_finished family span.took (joined family pool (row ∷ rs)) body out size e
+        ∙ (λ i. let all = sheet.section family (n i) (k.bytes i) in sheet.left (Ok (length all)) (sets body 0 (k.bytes i)) (sets out 0 all)) in
         record {
           family = f;
           valid = k.valid;
@@ -283,14 +283,14 @@ made-rows (Are (row ∷ rs)) pool body out size e = go (tries family pool (lengt
           at_out = ap (λ l. l.out) whole;
         }
 
-made_sheet : (input body out : List ℕ) (size : ℕ) → (sheeted input body out).answer ≡ Size size → Made (entries input) body out (sheeted input body out)
+made_sheet : (input body out : List ℕ) (size : ℕ) → (sheeted input body out).answer ≡ Ok size → Made (entries input) body out (sheeted input body out)
 unfolding sheeted
 made_sheet input body out size e = go (ltb 65536 (length input)) e
   where
     rest : sheet.Left
     rest = of_rows (frame.framed input) (frame.pool_of input) body out
 
-    go : (b : Bool) → (cond b (sheet.refuse refusal.Limit 0 body out) rest).answer ≡ Size size
+    go : (b : Bool) → (cond b (sheet.refuse refusal.Limit 0 body out) rest).answer ≡ Ok size
         → Made (entries input) body out (cond b (sheet.refuse refusal.Limit 0 body out) rest)
     go true e = no_size e
     go false e = made-rows (frame.framed input) (frame.pool_of input) body out size e

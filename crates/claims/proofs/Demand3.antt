@@ -1,4 +1,5 @@
 -- Demand 3, from the laws of reading a type and an import.
+use Rattle.std.specs.Prelude.{Option, Some, None, Ok}
 use Prim.Native.Nat.{ℕ, ◌+◌, ◌≤◌, ◌<◌, ◌^◌}
 use native.Mathlib.Omega.{arith}
 use mathlib.Core.Path.{◌≡◌, refl, sym, ap, ◌∙◌, subst}
@@ -11,12 +12,10 @@ use Rattle.numbers.specs.Bytes.{Bytes}
 use Rattle.numbers.specs.Leb.{bytes_of}
 use Rattle.numbers.specs.Text.{text, rest, step}
 use Rattle.numbers.proofs.BytesLaws.{sets_back}
-use Rattle.fields.specs.declared.Answer.TheVariants.{Size}
-use Rattle.fields.specs.declared.Found.{Found}
-use Rattle.fields.specs.declared.Found.TheVariants.{Is, Not}
-use Rattle.fields.specs.declared.Read.TheVariants.{Item, Refused}
+use Rattle.fields.specs.Read.{Item, Refused}
 use Rattle.fields.specs.declared.Refusal.{Refusal}
 use Rattle.fields.specs.declared.Refusal.TheVariants as refusal
+use Rattle.fields.specs.declared.Shape.{Shape}
 use Rattle.fields.specs.Words.{word, Words, wide}
 use Rattle.writing.specs.Binary.{name, bytes}
 use Rattle.writing.specs.Judge.{named, flaw, judge}
@@ -29,6 +28,7 @@ use Rattle.fields.specs.Shape.{repeated, seq, widths, row_width}
 use Rattle.fields.specs.Table.{shape_in}
 use Rattle.fields.specs.View.{Name, view, said}
 use Rattle.fields.specs.Walk.{walk, outs}
+use Rattle.fields.proofs.OutcomeLaws.{item-same}
 use Rattle.writing.specs.Write.{sized, measured, stored}
 use Rattle.round_trip.specs.Returned.{ReadsBack}
 use Rattle.round_trip.specs.Padded.{Padded}
@@ -65,7 +65,7 @@ use Rattle.numbers.proofs.Impossible.{impossible}
 
 -- ---- a valid row has a size, which is the length of its production
 
-valid-size : (family : ℕ) (row pool : List ℕ) → Valid family row pool → measured_family family row pool ≡ Size (length (family_bytes family pool row))
+valid-size : (family : ℕ) (row pool : List ℕ) → Valid family row pool → measured_family family row pool ≡ Ok (length (family_bytes family pool row))
 valid-size family row pool v = accepted_size (row_turns (fresh family) v.0 row pool) v.1
 
 -- its bytes are its production
@@ -73,13 +73,13 @@ pub valid-bytes : (family : ℕ) → Family family → (row pool : List ℕ) →
 valid-bytes family f row pool v = family-production family row pool _ (valid-size family row pool v)
 
 pub valid_measured : (family : ℕ) → Family family → (row pool : List ℕ) → Valid family row pool
-    → measured_family family row pool ≡ Size (length (production family pool row))
-valid_measured family f row pool v = valid-size family row pool v ∙ ap (λ bs. Size (length bs)) (valid-bytes family f row pool v)
+    → measured_family family row pool ≡ Ok (length (production family pool row))
+valid_measured family f row pool v = valid-size family row pool v ∙ ap (λ bs. Ok (length bs)) (valid-bytes family f row pool v)
 
 -- ---- read back
 
 module _ (family : ℕ) (row pool input room : List ℕ) where
-  abbrev found : Found
+  abbrev found : Option Shape
   found = shape_by (entries_of family) (word row 0)
 
   -- what is said of the kind's shape is said of the row
@@ -99,7 +99,7 @@ module _ (family : ℕ) (row pool input room : List ℕ) where
 
 -- a row that has a size, by which it is written as its production
 sized-back : (family : ℕ) → Family family → (row pool : List ℕ) → Words row
-    → measured_family family row pool ≡ Size (length (production family pool row)) → family_bytes family pool row ≡ production family pool row
+    → measured_family family row pool ≡ Ok (length (production family pool row)) → family_bytes family pool row ≡ production family pool row
     → (rest room : List ℕ) (g : ℕ) → 1 ≤ g → g ≤ 3 → length (production family pool row ++ rest) ≤ 2 ^ 30
     → ReadBack (first_above family g pool row) family pool row (production family pool row ++ rest) room
     (reads family g (production family pool row ++ rest) room)
@@ -133,7 +133,7 @@ refused {w} {n} {q} {e} r =
 abbrev Limits : ℕ → List ℕ → Type 0
 Limits g input = (1 ≤ g) × (g ≤ 3) × (length input ≤ 2 ^ 30)
 
-item-limits : (f : Found) (kind lead g : ℕ) (input room after : List ℕ) (q e : ℕ) → read_item f kind lead g input room ≡ left_row (Item q e) after
+item-limits : (f : Option Shape) (kind lead g : ℕ) (input room after : List ℕ) (q e : ℕ) → read_item f kind lead g input room ≡ left_row (Item q e) after
     → Limits g input
 unfolding read_item
 item-limits f kind lead g input room after q e r = go (ltb (2 ^ 30) (length input)) (ltb g 1) (ltb 3 g) refl refl refl r
@@ -168,9 +168,9 @@ reads-limits family instances g input room after q e r = item-limits _ _ _ g inp
 
 module _ (family : ℕ) (row pool input room after : List ℕ) (q e : ℕ) where
   -- the words that are returned are as many as the row's
-  same_long : (f : Found) (words : List ℕ) → SameBy f pool row input words → length words ≡ length row
-  same_long (Is s) words same = same.long
-  same_long Not words same = absurd same
+  same_long : (f : Option Shape) (words : List ℕ) → SameBy f pool row input words → length words ≡ length row
+  same_long (Some s) words same = same.long
+  same_long None words same = absurd same
 
   abbrev Its : Type 0
   Its = (q ≡ length row) × (e ≡ length (production family pool row)) × Same family pool row input (take q after)
@@ -179,8 +179,8 @@ module _ (family : ℕ) (row pool input room after : List ℕ) (q e : ℕ) where
   returned h t =
       let ws = t.words in
       let item : Item q e ≡ Item (length row) (length (production family pool row)) = ap (λ l. l.answer) t.leaves in
-      let eq : q ≡ length row = cc in
-      let ee : e ≡ length (production family pool row) = cc in
+      let eq = (item-same item).0 in
+      let ee = (item-same item).1 in
       let long = same_long (found family row pool input room) ws t.same in
       let fits : 0 + length ws ≤ length room = omega (arith, long) in
       let back : take q after ≡ ws = (λ i. take ((eq ∙ sym long) i) (t.leaves i).row) ∙ sets_back ws room 0 fits in
@@ -252,25 +252,25 @@ newer_at family instances row pool fw v g j any m =
 record Rewritten (family g : ℕ) (input taken row : List ℕ) : Type 0 where
   small : Words row
   clear : first_above family g taken row ≡ Clear
-  accepts : measured_family family row taken ≡ Size (length (family_bytes family taken row))
+  accepts : measured_family family row taken ≡ Ok (length (family_bytes family taken row))
   again : Padded taken (family_bytes family taken row)
   writes : (out : List ℕ) (at : ℕ)
       → write_family family row taken out at ≡ stored (measured_family family row taken) (family_bytes family taken row) out at
-  same : (other pool : List ℕ) (m : ℕ) → measured_family family other pool ≡ Size m → Same family pool other input row
+  same : (other pool : List ℕ) (m : ℕ) → measured_family family other pool ≡ Ok m → Same family pool other input row
       → family_bytes family taken row ≡ family_bytes family pool other
 
 -- the same item is of the same kind
-by_kind : (find : ℕ → Found) (lead g : ℕ) (input taken row : List ℕ) → item.WrittenAgain (find (word row 0)) lead g input taken row
-    → (other pool : List ℕ) (m : ℕ) → measured_row (find (word other 0)) other pool ≡ Size m → SameBy (find (word other 0)) pool other input row
+by_kind : (find : ℕ → Option Shape) (lead g : ℕ) (input taken row : List ℕ) → item.WrittenAgain (find (word row 0)) lead g input taken row
+    → (other pool : List ℕ) (m : ℕ) → measured_row (find (word other 0)) other pool ≡ Ok m → SameBy (find (word other 0)) pool other input row
     → row_bytes (find (word row 0)) taken row ≡ row_bytes (find (word other 0)) pool other
 by_kind find lead g input taken row o other pool m a same = go (find (word other 0)) refl same
   where
-    go : (f : Found) → find (word other 0) ≡ f → SameBy f pool other input row → row_bytes (find (word row 0)) taken row ≡ row_bytes (find (word other 0)) pool other
-    go (Is s) e same =
+    go : (f : Option Shape) → find (word other 0) ≡ f → SameBy f pool other input row → row_bytes (find (word row 0)) taken row ≡ row_bytes (find (word other 0)) pool other
+    go (Some s) e same =
         let kind : word row 0 ≡ word other 0 = same.kind in
         o.same s (ap find kind ∙ e) pool other m (ap (λ k. measured_row (find k) other pool) kind ∙ a) same
         ∙ ap (λ k. row_bytes (find k) pool other) kind
-    go Not e same = absurd same
+    go None e same = absurd same
 
 rewritten : (family : ℕ) → Family family → (input room after : List ℕ) (g words bytes : ℕ) → Bytes input → 1 ≤ g
     → reads family g input room ≡ left_row (Item words bytes) after → bytes ≤ 65536
@@ -335,7 +335,7 @@ written_again family f input room after g words bytes fi r few =
     let l = reads-limits family f g input room after words bytes r in
     let o = rewritten family f input room after g words bytes fi l.0 r few in
     let p : family_bytes family taken row ≡ production family taken row = family-production family row taken _ o.accepts in
-    let m : measured_family family row taken ≡ Size (length (production family taken row)) = o.accepts ∙ ap (λ bs. Size (length bs)) p in
+    let m : measured_family family row taken ≡ Ok (length (production family taken row)) = o.accepts ∙ ap (λ bs. Ok (length bs)) p in
     record {
       writes = λ out at. o.writes out at ∙ (λ i. stored (m i) (p i) out at);
       padded = padded_by (sym p) o.again refl;
@@ -354,7 +354,7 @@ written_again family f input room after g words bytes fi r few =
 
 -- ---- names that only run together alike
 
-not_the_same : ((out : List ℕ) (at : ℕ) → write_family 7 flags_row flags_pool out at ≡ stored (Size 6) flags_bytes out at)
+not_the_same : ((out : List ℕ) (at : ℕ) → write_family 7 flags_row flags_pool out at ≡ stored (Ok 6) flags_bytes out at)
     × (Same 7 flags_pool flags_row flags_bytes other_words → ⊥)
 unfolding write_family write_type write_row measured_row measured sized row_bytes row_width widths walk outs seq repeated judge flaw named wide text rest step bytes_of name bytes view shape_in SameFields said
 not_the_same = ((λ out at. refl), other)

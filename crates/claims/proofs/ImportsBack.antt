@@ -1,13 +1,13 @@
 -- Imports: what was written is read back, or refused at its first byte above the grade; and what is accepted is written again beside its
 -- own bytes.
+use Rattle.std.specs.Prelude.{Ok}
 use Prim.Native.Nat.{ℕ, ◌^◌, ◌≤◌}
 use native.Mathlib.Omega.{arith}
 use mathlib.Core.Path.{◌≡◌, subst}
 use mathlib.Core.List.{List, ◌++◌}
 use lib.ListN.{length, take, length-append}
 use Rattle.numbers.specs.Bytes.{Bytes}
-use Rattle.fields.specs.declared.Answer.TheVariants.{Size}
-use Rattle.fields.specs.declared.Read.TheVariants.{Item}
+use Rattle.fields.specs.Read.{Item}
 use Rattle.fields.specs.Words.{word, Words}
 use Rattle.round_trip.specs.Mark.{row_mark}
 use Rattle.fields.specs.Answers.{left_row}
@@ -19,7 +19,7 @@ use Rattle.imports.specs.Write.{shape_of, measured_import}
 use Rattle.claims.specs.Demand3.{import_mark}
 use Rattle.imports.proofs.SomeLaws.{import_bytes, import-some}
 
-pub import-back : (g : ℕ) (row pool : List ℕ) (m : ℕ) → Words row → measured_import row pool ≡ Size m
+pub import-back : (g : ℕ) (row pool : List ℕ) (m : ℕ) → Words row → measured_import row pool ≡ Ok m
     → (rest input room : List ℕ) → input ≡ import_bytes pool row ++ rest → 1 ≤ g → g ≤ 3 → length input ≤ 2 ^ 30
     → ReadsBack (shape_of (word row 0)) (import_mark g pool row) pool row input room m (read_import g input room)
 unfolding measured_import read_import import_mark

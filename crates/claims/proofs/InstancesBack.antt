@@ -1,5 +1,6 @@
 -- Core instances and instances: what was written is read back, or refused at its first byte above the grade; and what is accepted is
 -- written again beside its own bytes.
+use Rattle.std.specs.Prelude.{Ok}
 use Prim.Native.Nat.{ℕ, ◌^◌, ◌≤◌, ◌<◌}
 use native.Mathlib.Omega.{arith}
 use mathlib.Core.Path.{◌≡◌, refl}
@@ -8,8 +9,7 @@ use mathlib.Core.List.{List, ◌++◌}
 use lib.Dec.{eqb}
 use lib.ListN.{length, take, drop}
 use Rattle.numbers.specs.Bytes.{Bytes}
-use Rattle.fields.specs.declared.Answer.TheVariants.{Size}
-use Rattle.fields.specs.declared.Read.TheVariants.{Item}
+use Rattle.fields.specs.Read.{Item}
 use Rattle.fields.specs.Answers.{left_row}
 use Rattle.fields.specs.Words.{word, Words}
 use Rattle.reading.specs.Scan.{byte}
@@ -37,7 +37,7 @@ instances-begin = ((λ pool ws rest. (refl, omega arith)), ((λ pool ws rest. (r
 
 -- ---- reading
 
-pub core_instance-back : (g : ℕ) (row pool : List ℕ) (m : ℕ) → Words row → measured_core_instance row pool ≡ Size m
+pub core_instance-back : (g : ℕ) (row pool : List ℕ) (m : ℕ) → Words row → measured_core_instance row pool ≡ Ok m
     → (rest input room : List ℕ) → input ≡ row_bytes (core_shape_of (word row 0)) pool row ++ rest → 1 ≤ g → g ≤ 3 → length input ≤ 2 ^ 30
     → ReadsBack (core_shape_of (word row 0)) (core_instance_mark g pool row) pool row input room m (read_core_instance g input room)
 unfolding measured_core_instance read_core_instance core_instance_mark
@@ -46,7 +46,7 @@ core_instance-back g row pool m fw e rest input room q any top short =
     by_kind_back core_shape_of (λ k. 1) core_kind_of g row pool m fw e rest input room q any top short
     (rw (core_instance-row row pool m e).as_production (begins_in core_kind_of core_table core_begin (word row 0) a.shape a.is pool (drop 1 row) rest))
 
-pub instance_back : (g : ℕ) (row pool : List ℕ) (m : ℕ) → Words row → measured_instance row pool ≡ Size m
+pub instance_back : (g : ℕ) (row pool : List ℕ) (m : ℕ) → Words row → measured_instance row pool ≡ Ok m
     → (rest input room : List ℕ) → input ≡ row_bytes (shape_of (word row 0)) pool row ++ rest → 1 ≤ g → g ≤ 3 → length input ≤ 2 ^ 30
     → ReadsBack (shape_of (word row 0)) (instance_mark g pool row) pool row input room m (read_instance g input room)
 unfolding measured_instance read_instance instance_mark

@@ -1,5 +1,6 @@
 -- A refusal changes nothing that is lent, and what is accepted changes only what it counts: the state as it is told, and of a buffer
 -- the bytes or words that stand at the place.
+use Rattle.std.specs.Prelude.{Option, Some, None, Ok, Err}
 use Prim.Native.Nat.{ℕ, ◌+◌, ◌-◌, ◌^◌, ◌≤◌}
 use native.Mathlib.Omega.{arith}
 use mathlib.Core.Path.{◌≡◌, refl, sym, ap, ◌∙◌, subst}
@@ -13,14 +14,10 @@ use Rattle.numbers.specs.Bytes.{store, part_of}
 use Rattle.numbers.specs.Leb.{unsigned, signed}
 use Rattle.numbers.specs.Numbers as numbers
 use Rattle.numbers.proofs.BytesLaws.{sets-outside, store-either}
-use Rattle.fields.specs.declared.Answer.{Answer}
-use Rattle.fields.specs.declared.Answer.TheVariants.{Size, Refused}
-use Rattle.fields.specs.declared.Found.{Found}
-use Rattle.fields.specs.declared.Found.TheVariants as found
-use Rattle.fields.specs.declared.Leaf.{Leaf}
-use Rattle.fields.specs.declared.Leaf.TheVariants.{Fine, Bad}
-use Rattle.fields.specs.declared.Read.{Read}
-use Rattle.fields.specs.declared.Read.TheVariants as read
+use Rattle.fields.specs.Answer.{Answer}
+use Rattle.fields.specs.Leaf.{Leaf}
+use Rattle.fields.specs.Read.{Read}
+use Rattle.fields.specs.Read as read
 use Rattle.fields.specs.declared.Refusal.{Refusal}
 use Rattle.fields.specs.declared.Refusal.TheVariants as refusal
 use Rattle.fields.specs.declared.Shape.{Shape}
@@ -63,8 +60,6 @@ use Rattle.sections.proofs.TurnLaws.{either, shape_turns, row_turns, open_turns}
 use Rattle.sheets.specs.Frame.{Rows, Are, Broken, framed, pool_of, listed}
 use Rattle.sheets.specs.Sheet as sheet
 use Rattle.sheets.specs.Sheet.{family_of, tries, joined, finished, of_rows, sheeted}
-use Rattle.cabi.specs.declared.Given.{Given}
-use Rattle.cabi.specs.declared.Given.TheVariants.{Is, Not}
 use Rattle.cabi.specs.Read.{reply_of_read, of_read}
 use Rattle.cabi.specs.State as state
 use Rattle.cabi.specs.State.{section_of, given, start_number, numbers_of, finishes}
@@ -116,14 +111,14 @@ stores src at out = store-either (Stores at out) src at out (kept-stored at (len
 -- ---- writing
 
 -- bytes of the size that was found
-writes : (a : Answer) (bs out : List ℕ) (at : ℕ) → ((size : ℕ) → a ≡ Size size → size ≡ length bs) → Writes at out (stored a bs out at)
+writes : (a : Answer) (bs out : List ℕ) (at : ℕ) → ((size : ℕ) → a ≡ Ok size → size ≡ length bs) → Writes at out (stored a bs out at)
 unfolding stored number_of value_of
-writes (Size m) bs out at long = go (leb (at + m) (length out))
+writes (Ok m) bs out at long = go (leb (at + m) (length out))
   where
-    go : (b : Bool) → Writes at out (cond b (left (Size m) (sets out at bs)) (refuse refusal.Room m out))
+    go : (b : Bool) → Writes at out (cond b (left (Ok m) (sets out at bs)) (refuse refusal.Room m out))
     go true = kept-stored at m bs out (long m refl)
     go false = kept_as_was _ at _ out
-writes (Refused w n) bs out at long = kept_as_was _ at _ out
+writes (Err fault) bs out at long = kept_as_was _ at _ out
 
 writes_shape : (s : Shape) (row : List ℕ) (start : ℕ) (pool out : List ℕ) (at : ℕ) → Writes at out (write_shape s row start pool out at)
 unfolding write_shape
@@ -159,8 +154,8 @@ writes_instance row pool out at = writes-family 5 row pool out at
 
 -- a walk that ends has made n elements
 abbrev Made : Leaf → ℕ → Type 0
-Made (Fine e q) n = q ≡ n
-Made (Bad w j) n = Unit {0}
+Made (Ok span) n = span.made ≡ n
+Made (Err fault) n = Unit {0}
 
 -- the words that are counted are those that are filled
 fills : (lead g : ℕ) (input : List ℕ) (p : Plan) (xs : List ℕ) (at made : ℕ)
@@ -182,34 +177,34 @@ fills lead g input (step f k) xs at made =
         (made + m + length (outs (reader lead g input) rest (at + t) (drop t xs))))
         → Made (next l (λ t m. walk (reader lead g input) rest (drop t xs) (at + t) (made + m)) at)
         (made + length (ws ++ outs (reader lead g input) rest (at + took l) (drop (took l) xs)))
-    go (Fine t m) w ih =
-        let vs = outs (reader lead g input) rest (at + t) (drop t xs) in
-        let n : made + m + length vs ≡ made + length (ws ++ vs) = omega (arith, w.1, fill-length g f at xs, length-append ws vs) in
-        subst (λ n. Made (walk (reader lead g input) rest (drop t xs) (at + t) (made + m)) n) n (ih t m)
-    go (Bad w j) b ih = tt
+    go (Ok span) w ih =
+        let vs = outs (reader lead g input) rest (at + span.took) (drop span.took xs) in
+        let n : made + span.made + length vs ≡ made + length (ws ++ vs) = omega (arith, w.1, fill-length g f at xs, length-append ws vs) in
+        subst (λ n. Made (walk (reader lead g input) rest (drop span.took xs) (at + span.took) (made + span.made)) n) n (ih span.took span.made)
+    go (Err fault) b ih = tt
 
 reads-roomed : (l : Leaf) (ws row : List ℕ) → Made l (length ws) → Reads row (roomed l ws row)
 unfolding roomed
-reads-roomed (Bad w j) ws row h = kept_as_was _ 0 _ row
-reads-roomed (Fine e q) ws row h = go (ltb 16384 q) (leb q (length row))
+reads-roomed (Err fault) ws row h = kept_as_was _ 0 _ row
+reads-roomed (Ok span) ws row h = go (ltb 16384 span.made) (leb span.made (length row))
   where
     go : (a b : Bool)
-        → Reads row (cond a (left_row (read.Refused refusal.Room q) row)
-        (cond b (left_row (read.Item q e) (sets row 0 ws)) (left_row (read.Refused refusal.Room q) row)))
+        → Reads row (cond a (left_row (read.Refused refusal.Room span.made) row)
+        (cond b (left_row (read.Item span.made span.took) (sets row 0 ws)) (left_row (read.Refused refusal.Room span.made) row)))
     go true b = kept_as_was _ 0 _ row
-    go false true = kept-stored 0 q ws row h
+    go false true = kept-stored 0 span.made ws row h
     go false false = kept_as_was _ 0 _ row
 
-reads-item : (f : Found) (kind lead g : ℕ) (input row : List ℕ) → Reads row (read_item f kind lead g input row)
+reads-item : (f : Option Shape) (kind lead g : ℕ) (input row : List ℕ) → Reads row (read_item f kind lead g input row)
 unfolding read_item
 reads-item f kind lead g input row = go (ltb (2 ^ 30) (length input)) (ltb g 1) (ltb 3 g) (eqb (length input) 0)
   where
-    shaped : (f : Found) → Reads row (read_found f kind lead g input row)
-    shaped (found.Is s) =
+    shaped : (f : Option Shape) → Reads row (read_found f kind lead g input row)
+    shaped (Some s) =
         let n : 1 + length (outs (reader lead g input) (plan s) 0 input) ≡ length (filled kind lead g s input) = omega arith in
         reads-roomed (scanned lead g s input) (filled kind lead g s input) row
         (subst (λ n. Made (scanned lead g s input) n) n (fills lead g input (plan s) input 0 1))
-    shaped found.Not = kept_as_was _ 0 _ row
+    shaped None = kept_as_was _ 0 _ row
 
     go : (a b c d : Bool)
         → Reads row (cond a (left_row (read.Refused refusal.Limit 0) row)
@@ -294,7 +289,7 @@ module _ (s : Section) (body : List ℕ) where
 
   -- a turn that stores bytes, where what is told is the state that it grows to
   leaves : {r : Answer} {bs : List ℕ} {count : ℕ} {phase : Phase} {t : Turn} (k : Step)
-      → ((n : ℕ) → (taken s (Size n) count phase).section ≡ told k s n) → law.Turns s body r bs count phase t → Leaves k s body t
+      → ((n : ℕ) → (taken s (Ok n) count phase).section ≡ told k s n) → law.Turns s body r bs count phase t → Leaves k s body t
   unfolding number_of value_of
   leaves k tells (law.refuses w n) = refuses k w n
   leaves {r} {bs} k tells (law.stores e h) =
@@ -355,15 +350,15 @@ writes-finished s body out = go (sounds s (length body)) (opened s.phase) (ltb 4
     bs : List ℕ
     bs = frame.framed s.family (length (unsigned s.count) + length used) s.count used
 
-    long : (size : ℕ) → Size (length bs) ≡ Size size → size ≡ length bs
+    long : (size : ℕ) → ◌≡◌ {A = Answer} (Ok (length bs)) (Ok size) → size ≡ length bs
     long size e = cc
 
     go : (a b c : Bool)
-        → Writes 0 out (cond a (cond b (refuse refusal.Order 0 out) (cond c (refuse refusal.TooBig 0 out) (stored (Size (length bs)) bs out 0)))
+        → Writes 0 out (cond a (cond b (refuse refusal.Order 0 out) (cond c (refuse refusal.TooBig 0 out) (stored (Ok (length bs)) bs out 0)))
         (refuse refusal.Limit 0 out))
     go true true c = kept_as_was _ 0 _ out
     go true false true = kept_as_was _ 0 _ out
-    go true false false = writes (Size (length bs)) bs out 0 long
+    go true false false = writes (Ok (length bs)) bs out 0 long
     go false b c = kept_as_was _ 0 _ out
 
 -- ---- sheets
@@ -385,7 +380,7 @@ module _ (size : ℕ) (body out : List ℕ) where
       whole = sheet.section family r bs
 
       go : (b : Bool)
-          → Sheets size body out (cond b (sheet.left (Size (length whole)) (sets body 0 bs) (sets out 0 whole)) (sheet.refuse refusal.Room r body out))
+          → Sheets size body out (cond b (sheet.left (Ok (length whole)) (sets body 0 bs) (sets out 0 whole)) (sheet.refuse refusal.Room r body out))
       go true = record { on_body = kept-stored 0 size bs body e; on_out = kept-stored 0 (length whole) whole out refl }
       go false = sheet_refused refusal.Room r
 
@@ -405,9 +400,9 @@ sheet_rows_lem (Are (row ∷ rows)) pool body out = go (tries family pool (lengt
     size = length (productions family (beside pool (row ∷ rows)))
 
     go : (l : Leaf) → tries family pool (length body) (row ∷ rows) 0 0 ≡ l → Sheets size body out (sheet.written l family bs body out)
-    go (Fine r used) e =
-        sheet_finished size body out family r bs (ap length (sym (joined-productions family pool (length body) (row ∷ rows) 0 0 r used e)))
-    go (Bad w r) e = sheet_refused size body out w r
+    go (Ok span) e =
+        sheet_finished size body out family span.took bs (ap length (sym (joined-productions family pool (length body) (row ∷ rows) 0 0 span.took span.made e)))
+    go (Err fault) e = sheet_refused size body out fault.why fault.value
 
 sheet_leaves : (input body out : List ℕ)
     → Sheets (length (productions (family_in (entries input)) (entries input))) body out (sheeted input body out)
@@ -423,7 +418,7 @@ sheet_leaves input body out = go (ltb 65536 (length input))
 -- ---- the C interface
 
 -- five numbers that are a state are the numbers of that state
-numbers_given : (x : List ℕ) (s : Section) → given x ≡ Is s
+numbers_given : (x : List ℕ) (s : Section) → given x ≡ Some s
     → numbers_of s ≡ get_or x 0 0 ∷ get_or x 1 0 ∷ get_or x 2 0 ∷ get_or x 3 0 ∷ get_or x 4 0 ∷ []
 unfolding given
 numbers_given x s e =
@@ -436,11 +431,11 @@ numbers_given x s e =
     start : ℕ
     start = get_or x 4 0
 
-    section : Phase → Given
+    section : Phase → Option Section
     section p = section_of (get_or x 0 0) (get_or x 1 0) (get_or x 2 0) p
 
     -- the section that is found has these numbers
-    is : (p : Phase) → section p ≡ Is s → state.phase_number p ≡ phase → start_number p ≡ start
+    is : (p : Phase) → section p ≡ Some s → state.phase_number p ≡ phase → start_number p ≡ start
         → numbers_of s ≡ get_or x 0 0 ∷ get_or x 1 0 ∷ get_or x 2 0 ∷ phase ∷ start ∷ []
     is p e a b =
         let t : Section = record { family = get_or x 0 0; used = get_or x 1 0; count = get_or x 2 0; phase = p } in
@@ -450,7 +445,7 @@ numbers_given x s e =
     go : (a b c d f g : Bool) → eqb phase 0 ≡ c → eqb start 0 ≡ d → eqb phase 1 ≡ f → eqb phase 2 ≡ g
         → cond a
         (cond b
-        (cond c (cond d (section Closed) Not) (cond f (section (Opened start)) (cond g (section (Headed start)) Not))) Not) Not ≡ Is s
+        (cond c (cond d (section Closed) None) (cond f (section (Opened start)) (cond g (section (Headed start)) None))) None) None ≡ Some s
         → numbers_of s ≡ get_or x 0 0 ∷ get_or x 1 0 ∷ get_or x 2 0 ∷ phase ∷ start ∷ []
     go true true true true f g p q r t e = is Closed e (sym (eqb-true _ _ p)) (sym (eqb-true _ _ q))
     go true true true false f g p q r t e = impossible cc
@@ -473,42 +468,42 @@ counts : (k : Step) (x body : List ℕ) → length x ≡ 5 → Counts k x (state
 unfolding number_of
 counts k x body five-long = go (given x) refl
   where
-    go : (g : Given) → given x ≡ g → Counts k x (state.step g (λ s. turn k s body) x body)
-    go (Is s) e =
+    go : (g : Option Section) → given x ≡ g → Counts k x (state.step g (λ s. turn k s body) x body)
+    go (Some s) e =
         let t = (step-leaves k s body).on_state in
         record {
           refused = λ n. ap numbers_of (t.refused n) ∙ numbers_given x s e ∙ five x five-long;
           accepted = λ n. (s, e, ap numbers_of (t.accepted n));
         }
-    go Not e = record { refused = λ n. refl; accepted = λ n. absurd (refusal_number refusal.Limit n) }
+    go None e = record { refused = λ n. refl; accepted = λ n. absurd (refusal_number refusal.Limit n) }
 
 c_body : (k : Step) (x body : List ℕ)
     → let t = state.step (given x) (λ s. turn k s body) x body in Kept t.reply.number (get_or x 1 0) t.reply.value body t.body
 c_body k x body = go (given x) refl
   where
-    go : (g : Given) → given x ≡ g
+    go : (g : Option Section) → given x ≡ g
         → let t = state.step g (λ s. turn k s body) x body in Kept t.reply.number (get_or x 1 0) t.reply.value body t.body
-    go (Is s) e =
+    go (Some s) e =
         let used : s.used ≡ get_or x 1 0 = ap (λ l. get_or l 1 0) (numbers_given x s e) in
         let t = turn k s body in
         subst (λ at. Kept (number_of t.gave.answer) at (value_of t.gave.answer) body t.body) used (step-leaves k s body).on_body
-    go Not e = kept_as_was _ (get_or x 1 0) _ body
+    go None e = kept_as_was _ (get_or x 1 0) _ body
 
 c_finishes : (x body out : List ℕ)
     → let l = finishes (given x) body out in Kept l.reply.number 0 l.reply.value out l.out
 c_finishes x body out = go (given x)
   where
-    go : (g : Given) → let l = finishes g body out in Kept l.reply.number 0 l.reply.value out l.out
-    go (Is s) = writes-finished s body out
-    go Not = kept_as_was _ 0 _ out
+    go : (g : Option Section) → let l = finishes g body out in Kept l.reply.number 0 l.reply.value out l.out
+    go (Some s) = writes-finished s body out
+    go None = kept_as_was _ 0 _ out
 
 c_reads : (row : List ℕ) (l : LeftRow) → Reads row l → Kept (of_read l).reply.number 0 (of_read l).reply.also row (of_read l).row
 c_reads row l h = go l.answer h
   where
     go : (r : Read) → Kept (number_of_read r) 0 (words_of_read r) row l.row
         → Kept (reply_of_read r).number 0 (reply_of_read r).also row l.row
-    go (read.Item words bytes) h = h
-    go (read.Refused w n) h = record { refused = h.refused; accepted = λ e. absurd (refusal_number w e) }
+    go (Ok item) h = h
+    go (Err fault) h = record { refused = h.refused; accepted = λ e. absurd (refusal_number fault.why e) }
 
 -- ---- every call
 

@@ -1,4 +1,5 @@
 -- Rows whose kind is told by their first byte: what was written is read back.
+use Rattle.std.specs.Prelude.{Option, Some, Ok}
 use Prim.Native.Nat.{ℕ, ◌^◌, ◌≤◌}
 use native.Mathlib.Omega.{arith}
 use mathlib.Core.Path.{◌≡◌, sym, ap, ◌∙◌, refl}
@@ -7,12 +8,9 @@ use mathlib.Core.List.{List, [], ◌∷◌, ◌++◌}
 use borrow.Author.Tests.{eqb-true}
 use lib.Dec.{eqb}
 use lib.ListN.{length, length-append}
-use Rattle.fields.specs.declared.Answer.TheVariants.{Size}
-use Rattle.fields.specs.declared.Found.{Found}
-use Rattle.fields.specs.declared.Found.TheVariants.{Is}
-use Rattle.fields.specs.declared.Shape.{Shape}
 use Rattle.fields.specs.Table.{Line, shape_in, production_in}
 use Rattle.fields.specs.Words.{word, Words}
+use Rattle.fields.specs.declared.Shape.{Shape}
 use Rattle.reading.specs.Read.{read_item}
 use Rattle.reading.specs.Scan.{byte}
 use Rattle.round_trip.specs.Mark.{row_mark}
@@ -26,7 +24,7 @@ use Rattle.numbers.proofs.Impossible.{impossible}
 abbrev pub Begins : (ℕ → ℕ) → Line → Type 0
 Begins kind l = (pool ws rest : List ℕ) → (kind (byte (l.production pool ws ++ rest) 0) ≡ l.kind) × (1 ≤ length (l.production pool ws))
 
-pub begins_in : (kind : ℕ → ℕ) (ls : List Line) → All (Begins kind) ls → (k : ℕ) (s : Shape) → shape_in ls k ≡ Is s → (pool ws rest : List ℕ)
+pub begins_in : (kind : ℕ → ℕ) (ls : List Line) → All (Begins kind) ls → (k : ℕ) (s : Shape) → shape_in ls k ≡ Some s → (pool ws rest : List ℕ)
     → (kind (byte (production_in ls k pool ws ++ rest) 0) ≡ k) × (1 ≤ length (production_in ls k pool ws))
 unfolding shape_in production_in
 begins_in kind [] a k s f pool ws rest = impossible cc
@@ -35,14 +33,14 @@ begins_in kind (l ∷ ls) a k s f pool ws rest = go (eqb k l.kind) refl f (λ g.
     bytes : Bool → List ℕ
     bytes b = cond b (l.production pool ws) (production_in ls k pool ws)
 
-    go : (b : Bool) → eqb k l.kind ≡ b → cond b (Is l.shape) (shape_in ls k) ≡ Is s
-        → (shape_in ls k ≡ Is s → (kind (byte (production_in ls k pool ws ++ rest) 0) ≡ k) × (1 ≤ length (production_in ls k pool ws)))
+    go : (b : Bool) → eqb k l.kind ≡ b → cond b (Some l.shape) (shape_in ls k) ≡ Some s
+        → (shape_in ls k ≡ Some s → (kind (byte (production_in ls k pool ws ++ rest) 0) ≡ k) × (1 ≤ length (production_in ls k pool ws)))
         → (kind (byte (bytes b ++ rest) 0) ≡ k) × (1 ≤ length (bytes b))
     go true t f ih = let p = a.0 pool ws rest in (p.0 ∙ sym (eqb-true k l.kind t), p.1)
     go false t f ih = ih f
 
-module _ (find : ℕ → Found) (lead : ℕ → ℕ) (kind : ℕ → ℕ) (g : ℕ) (row pool : List ℕ) (m : ℕ) (fw : Words row)
-    (e : measured_row (find (word row 0)) row pool ≡ Size m) (rest input room : List ℕ)
+module _ (find : ℕ → Option Shape) (lead : ℕ → ℕ) (kind : ℕ → ℕ) (g : ℕ) (row pool : List ℕ) (m : ℕ) (fw : Words row)
+    (e : measured_row (find (word row 0)) row pool ≡ Ok m) (rest input room : List ℕ)
     (q : input ≡ row_bytes (find (word row 0)) pool row ++ rest) (any : 1 ≤ g) (top : g ≤ 3) (short : length input ≤ 2 ^ 30) where
   pub by_kind_back : (kind (byte (row_bytes (find (word row 0)) pool row ++ rest) 0) ≡ word row 0) × (1 ≤ length (row_bytes (find (word row 0)) pool row))
       → ReadsBack (find (word row 0)) (row_mark (find (word row 0)) (lead (word row 0)) g pool row) pool row input room m

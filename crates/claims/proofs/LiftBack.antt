@@ -1,5 +1,6 @@
 -- A lift: its words in the order of its row, the type third, and in that of its bytes, the type last. A row that is taken is, in the
 -- order of its bytes, a row of that shape, and written as such; so it is read back.
+use Rattle.std.specs.Prelude.{Some, Ok, Err}
 use Prim.Native.Nat.{ℕ, zero, suc, ◌+◌, ◌-◌, ◌*◌, ◌^◌, ◌≤◌, ◌<◌}
 use native.Mathlib.Omega.{arith}
 use mathlib.Core.Path.{◌≡◌, refl, sym, ap, ◌∙◌, subst}
@@ -12,12 +13,9 @@ use lib.Seq.{sets, get_or-append-add, take-append_seam, length-take-le}
 use Rattle.numbers.specs.Bytes.{Bytes}
 use Rattle.numbers.proofs.BytesLaws.{sets_back}
 use Rattle.numbers.specs.Leb.{unsigned}
-use Rattle.fields.specs.declared.Answer.TheVariants.{Size}
 use Rattle.fields.specs.declared.Field.TheVariants as field
-use Rattle.fields.specs.declared.Found.TheVariants.{Is}
-use Rattle.fields.specs.declared.Leaf.{Leaf}
-use Rattle.fields.specs.declared.Leaf.TheVariants.{Fine, Bad}
-use Rattle.fields.specs.declared.Read.TheVariants.{Item, Refused}
+use Rattle.fields.specs.Leaf.{Leaf, Fine}
+use Rattle.fields.specs.Read.{Item, Refused}
 use Rattle.fields.specs.declared.Refusal.{Refusal}
 use Rattle.fields.specs.declared.Refusal.TheVariants as refusal
 use Rattle.fields.specs.Answers.{left_row}
@@ -26,6 +24,7 @@ use Rattle.fields.specs.Table.{elements}
 use Rattle.fields.specs.View.{said, view, Word}
 use Rattle.fields.specs.Walk.{end, outs}
 use Rattle.fields.specs.Words.{word, wide, Words}
+use Rattle.fields.proofs.OutcomeLaws.{item-same}
 use Rattle.writing.specs.Binary.{canonopt, bytes}
 use Rattle.writing.specs.Judge.{choice, flaw}
 use Rattle.writing.specs.Row.{measured_row}
@@ -105,7 +104,7 @@ module _ (k f t n : ℕ) (os pool : List ℕ) (h : Lifted (in_row k f t n os) po
   unfolding strings bytes widths wide
   lift_strings = ap (λ v. 0x00 ∷ 0x00 ∷ (unsigned f ++ (unsigned n ++ v))) (last-strings pool n t os long)
 
-  pub lift_known : measured_row (Is lift_bytes) (in_bytes k f t n os) pool ≡ Size (2 + lifted_size (in_row k f t n os))
+  pub lift_known : measured_row (Some lift_bytes) (in_bytes k f t n os) pool ≡ Ok (2 + lifted_size (in_row k f t n os))
   unfolding row_width widths wide Rights flaw
   lift_known =
       let l = length-append os (t ∷ []) in
@@ -154,7 +153,7 @@ lift-rows (k ∷ f ∷ []) w = absurd (omega (arith, w))
 lift-rows (k ∷ f ∷ t ∷ []) w = absurd (omega (arith, w))
 lift-rows (k ∷ f ∷ t ∷ n ∷ os) w = refl
 
-pub lift_is : (k f t n : ℕ) (os pool : List ℕ) {m : ℕ} → measured_row (Is lift_shape) (in_row k f t n os) pool ≡ Size m
+pub lift_is : (k f t n : ℕ) (os pool : List ℕ) {m : ℕ} → measured_row (Some lift_shape) (in_row k f t n os) pool ≡ Ok m
     → Lifted (in_row k f t n os) pool
 unfolding row_width widths wide Rights
 lift_is k f t n os pool e =
@@ -265,7 +264,7 @@ module _ (g f t n : ℕ) (os pool : List ℕ) (fw : Words (in_row 256 f t n os))
 
   sized : Sized lift_bytes (in_bytes 256 f t n os) 1 pool m
   sized =
-      let a = accepted (Is lift_bytes) (in_bytes 256 f t n os) pool m (lift_known 256 f t n os pool h) in
+      let a = accepted (Some lift_bytes) (in_bytes 256 f t n os) pool m (lift_known 256 f t n os pool h) in
       let same : a.shape ≡ lift_bytes = cc a.is in
       subst (λ s. Sized s (in_bytes 256 f t n os) 1 pool m) same a.sized
 
@@ -318,7 +317,7 @@ module _ (g f t n : ℕ) (os pool : List ℕ) (fw : Words (in_row 256 f t n os))
             same = record { kind = refl; long = refl; says = same_self pool input f t n os };
           }
 
-  pub lift_back : ReadBack (row_mark (Is lift_bytes) 1 g pool (in_bytes 256 f t n os)) lift_shape pool (in_row 256 f t n os) input room m (read_lift g input room)
+  pub lift_back : ReadBack (row_mark (Some lift_bytes) 1 g pool (in_bytes 256 f t n os)) lift_shape pool (in_row 256 f t n os) input room m (read_lift g input room)
   unfolding row_mark read_lift
   lift_back =
       simp (le-ltb _ _ short, le-ltb _ _ any, le-ltb _ _ top, ne_eqb _ _ some)
@@ -382,7 +381,7 @@ pub record LiftAgain (g : ℕ) (taken row : List ℕ) : Type 0 where
   pub is : row ≡ in_row 256 function type count options
   pub small : Words (in_row 256 function type count options)
   pub right : Lifted (in_row 256 function type count options) taken
-  pub clear : row_mark (Is lift_bytes) 1 g taken (in_bytes 256 function type count options) ≡ Clear
+  pub clear : row_mark (Some lift_bytes) 1 g taken (in_bytes 256 function type count options) ≡ Clear
   pub again : Padded taken (lift (function ∷ type ∷ count ∷ options))
 
 refused : {w : Refusal} {n q e : ℕ} {row after : List ℕ} {A : Type 0} → left_row (Refused w n) row ≡ left_row (Item q e) after → A
@@ -409,21 +408,21 @@ module _ (g : ℕ) (input room after : List ℕ) (q e : ℕ) where
     where
       fitting : ltb (2 ^ 30) (length input) ≡ false → ltb g 1 ≡ false → ltb 3 g ≡ false → (l : Leaf) → scanned 1 g lift_bytes input ≡ l
           → roomed l (type_third ws) room ≡ left_row (Item q e) after → Ends
-      fitting x y z (Bad w j) p r = refused r
-      fitting x y z (Fine a b) p r = fits (ltb 16384 b) (leb b (length room)) refl refl r
+      fitting x y z (Err fault) p r = refused r
+      fitting x y z (Ok span) p r = fits (ltb 16384 span.made) (leb span.made (length room)) refl refl r
         where
-          fits : (long room-there : Bool) → ltb 16384 b ≡ long → leb b (length room) ≡ room-there
-              → cond long (left_row (Refused refusal.Room b) room)
-              (cond room-there (left_row (Item b a) (sets room 0 (type_third ws))) (left_row (Refused refusal.Room b) room)) ≡ left_row (Item q e) after
+          fits : (long room-there : Bool) → ltb 16384 span.made ≡ long → leb span.made (length room) ≡ room-there
+              → cond long (left_row (Refused refusal.Room span.made) room)
+              (cond room-there (left_row (Item span.made span.took) (sets room 0 (type_third ws))) (left_row (Refused refusal.Room span.made) room)) ≡ left_row (Item q e) after
               → Ends
           fits true t u v r = refused r
           fits false false u v r = refused r
           fits false true u v r =
-              let item : Item b a ≡ Item q e = ap (λ l. l.answer) r in
-              let eb : b ≡ q = cc in
-              let ea : a ≡ e = cc in
-              let s = ltb-false 16384 b u in
-              let t = leb-true b (length room) v in
+              let item : Item span.made span.took ≡ Item q e = ap (λ l. l.answer) r in
+              let eb = (item-same item).0 in
+              let ea = (item-same item).1 in
+              let s = ltb-false 16384 span.made u in
+              let t = leb-true span.made (length room) v in
               record {
                 low = ltb-false g 1 y;
                 top = ltb-false 3 g z;

@@ -1,4 +1,5 @@
 -- The byte at a row's first mark: it stands among the row's bytes, and marks a form above the grade.
+use Rattle.std.specs.Prelude.{Option, Some, Ok, Err}
 use Prim.Native.Nat.{ℕ, zero, suc, ◌+◌, ◌≤◌, ◌<◌}
 use native.Mathlib.Omega.{arith}
 use mathlib.Core.Path.{◌≡◌, refl, sym, ap, ◌∙◌, subst}
@@ -11,12 +12,8 @@ use lib.ListN.{length, drop, length-append, get_or-append}
 use lib.Seq.{get_or-append-add}
 use Rattle.fields.specs.declared.Field.{Field}
 use Rattle.fields.specs.declared.Field.TheVariants as field
-use Rattle.fields.specs.declared.Flaw.{Flaw}
-use Rattle.fields.specs.declared.Flaw.TheVariants.{Right, Wrong}
-use Rattle.fields.specs.declared.Answer.TheVariants.{Size}
-use Rattle.fields.specs.declared.Found.{Found}
-use Rattle.fields.specs.declared.Found.TheVariants.{Is}
-use Rattle.fields.specs.declared.Leaf.TheVariants.{Fine}
+use Rattle.fields.specs.Flaw.{Flaw, Right}
+use Rattle.fields.specs.Leaf.{Fine}
 use Rattle.fields.specs.declared.Shape.{Shape}
 use Rattle.fields.specs.declared.Site.{Site}
 use Rattle.fields.specs.declared.Site.TheVariants.{Primitive, TypeLead, NameLead, CanonLead, CanonOption}
@@ -95,7 +92,7 @@ both : (a b : Bool) → (a && b) ≡ true → (a ≡ true) × (b ≡ true)
 both true b e = (refl, e)
 both false b e = impossible cc
 
-pub of_table : (family : ℕ) (grade : ℕ → ℕ) (ls : List Line) → table_marks family grade ls ≡ true → (k : ℕ) (s : Shape) → shape_in ls k ≡ Is s
+pub of_table : (family : ℕ) (grade : ℕ → ℕ) (ls : List Line) → table_marks family grade ls ≡ true → (k : ℕ) (s : Shape) → shape_in ls k ≡ Some s
     → shape_marks family (grade k) s ≡ true
 unfolding shape_in
 of_table family grade [] t k s f = impossible cc
@@ -106,8 +103,8 @@ of_table family grade (l ∷ ls) t k s f =
     here : Bool
     here = shape_marks family (grade l.kind) l.shape
 
-    go : (b : Bool) → eqb k l.kind ≡ b → cond b (Is l.shape) (shape_in ls k) ≡ Is s → here ≡ true
-        → (shape_in ls k ≡ Is s → shape_marks family (grade k) s ≡ true) → shape_marks family (grade k) s ≡ true
+    go : (b : Bool) → eqb k l.kind ≡ b → cond b (Some l.shape) (shape_in ls k) ≡ Some s → here ≡ true
+        → (shape_in ls k ≡ Some s → shape_marks family (grade k) s ≡ true) → shape_marks family (grade k) s ≡ true
     go true e f h ih =
         let q : l.shape ≡ s = cc in
         sym (λ i. shape_marks family (grade (sym (eqb-true k l.kind e) i)) (q i)) ∙ h
@@ -293,7 +290,7 @@ module _ (family lead g : ℕ) (any : 1 ≤ g) where
           → (Reaches (walk (writer pool) p (drop (wide f) ws) (at + wide f) (made + length bs)) → First later (b + length bs) (due (wide f)))
           → Reaches (next (unless l (Fine (wide f) (length bs))) (λ t m. walk (writer pool) p (drop t ws) (at + t) (made + m)) at)
           → First (ahead (mark lead g f ws) b later) b (bs ++ due (took (unless l (Fine (wide f) (length bs)))))
-      go (Wrong w j) ih u = absurd u
+      go (Err fault) ih u = absurd u
       go Right ih u = join (mark lead g f ws) (field_mark pool f ws known.0) (ih u)
 
   known_all : (fs : List Field) → all_mark family lead fs ≡ true → KnownAll fs
@@ -347,8 +344,8 @@ module _ (family lead g : ℕ) (any : 1 ≤ g) where
       subst (λ i. Stands bs i) same h.2
 
   -- the first mark of a row that is accepted
-  pub row_mark_lem : (found : Found) (row pool : List ℕ) (size : ℕ) → measured_row found row pool ≡ Size size
-      → ((s : Shape) → found ≡ Is s → shape_marks family lead s ≡ true) → (j : ℕ) → row_mark found lead g pool row ≡ At j
+  pub row_mark_lem : (found : Option Shape) (row pool : List ℕ) (size : ℕ) → measured_row found row pool ≡ Ok size
+      → ((s : Shape) → found ≡ Some s → shape_marks family lead s ≡ true) → (j : ℕ) → row_mark found lead g pool row ≡ At j
       → (j < length (row_bytes found pool row)) × Marking family g (byte (row_bytes found pool row) j)
   unfolding row_mark row_bytes
   row_mark_lem found row pool size e tested j m =

@@ -9,16 +9,17 @@ use lib.ListN.{length, take, drop}
 use Rattle.numbers.specs.Beginnings.{LongestBeginning}
 use Rattle.numbers.specs.Leb.{take_unsigned}
 use Rattle.numbers.specs.Text.{text, stop}
-use Rattle.numbers.specs.declared.leb.Taken.TheVariants as taken
+use Rattle.numbers.specs.Taken as taken
 use Rattle.numbers.proofs.Beginnings.{longest, stops_there}
 use Rattle.numbers.proofs.TextLaws.{right-text, spelled_right, spelled_wrong}
 use Rattle.numbers.proofs.Impossible.{impossible}
-use Rattle.fields.specs.declared.Flaw.TheVariants.{Right, Wrong}
-use Rattle.fields.specs.declared.Leaf.TheVariants.{Fine, Bad}
+use Rattle.fields.specs.Flaw.{Right, Wrong}
+use Rattle.fields.specs.Leaf.{Fine, Bad}
 use Rattle.fields.specs.declared.Offset.{Offset}
 use Rattle.fields.specs.declared.Refusal.TheVariants as refusal
 use Rattle.fields.specs.Answers.{offset_of, byte_at}
 use Rattle.fields.specs.Words.{word, chars}
+use Rattle.fields.proofs.OutcomeLaws.{bad-same, wrong-same}
 use Rattle.writing.specs.Judge as judge
 use Rattle.reading.specs.Scan.{cut, scan_name}
 use Rattle.claims.specs.Names.{NamesStop}
@@ -43,11 +44,12 @@ in_row pool ws i at offset e = go (leb (word ws i + word ws (i + 1)) (length poo
         → (at ≡ i) × LongestBeginning cs (byte_at offset)
     go true true h e = impossible cc
     go true false h e =
+        let refused = wrong-same e in
+        let why = refused.0 in
         let halves : offset_of (stop cs) ≡ offset = cc in
         let same = sym (told (stop cs)) ∙ ap byte_at halves in
-        let place : i ≡ at = cc in
-        (sym place, subst (LongestBeginning cs) same (stops_longest cs h))
-    go false b h e = impossible cc
+        (sym refused.1, subst (LongestBeginning cs) same (stops_longest cs h))
+    go false b h e = let why = (wrong-same e).0 in impossible cc
 
 in_reading : (bs : List ℕ) (n t at : ℕ) (offset : Offset) → take_unsigned bs ≡ taken.Value n t → scan_name bs ≡ Bad (refusal.Text offset) at
     → (at ≡ t) × LongestBeginning (take n (drop t bs)) (byte_at offset)
@@ -61,11 +63,12 @@ in_reading bs n t at offset v e = go (leb (t + n) (length bs)) (text cs) refl (r
         → (at ≡ t) × LongestBeginning cs (byte_at offset)
     go true true h e = impossible cc
     go true false h e =
+        let refused = bad-same e in
+        let why = refused.0 in
         let halves : offset_of (stop cs) ≡ offset = cc in
         let same = sym (told (stop cs)) ∙ ap byte_at halves in
-        let place : t ≡ at = cc in
-        (sym place, subst (LongestBeginning cs) same (stops_longest cs h))
-    go false b h e = impossible cc
+        (sym refused.1, subst (LongestBeginning cs) same (stops_longest cs h))
+    go false b h e = let why = (bad-same e).0 in impossible cc
 
 pub names-stop : NamesStop
 names-stop =

@@ -1,4 +1,5 @@
 -- Inputs of each call, one for each number that it can answer with, in the order of the numbers.
+use Rattle.std.specs.Prelude.{Option, Some, None}
 use Prim.Native.Nat.{ℕ, ◌+◌, ◌≤◌}
 use native.Mathlib.Omega.{arith}
 use mathlib.Core.Path.{◌≡◌}
@@ -6,10 +7,8 @@ use mathlib.Core.List.{List, [], ◌∷◌, ◌++◌}
 use borrow.Author.Tests.{lt-ltb, le-ltb}
 use lib.ListN.{length, take, replicate, length-take, length-replicate}
 use Rattle.numbers.specs.Leb.{bytes_of}
-use Rattle.fields.specs.declared.Found.{Found}
-use Rattle.fields.specs.declared.Shape.{Shape}
-use Rattle.fields.specs.declared.Found.TheVariants as found
 use Rattle.fields.specs.declared.Field.TheVariants as field
+use Rattle.fields.specs.declared.Shape.{Shape}
 use Rattle.fields.specs.Table.{two_of}
 use Rattle.fields.specs.Answers.{number_of_refusal, number_of}
 use Rattle.sections.specs.declared.Phase.{Phase}
@@ -157,12 +156,12 @@ import_shape = two_of field.Nothing field.Nothing field.ExternName field.Referen
 abbrev pub shapes : List (Shape × List ℕ × ℕ × List ℕ)
 shapes = each (λ x. (import_shape, x.0, 1, x.1)) ((import 0 1, []) ∷ (zeros 16385, []) ∷ wrong import 6)
 
-abbrev pub founds : List (Found × List ℕ × List ℕ)
+abbrev pub founds : List (Option Shape × List ℕ × List ℕ)
 founds =
-    (found.Is import_shape, import 0 1, [])
-    ∷ (found.Is import_shape, zeros 16385, [])
-    ∷ (found.Not, import 0 1, [])
-    ∷ each (λ x. (found.Is import_shape, x.0, x.1)) (wrong import 6)
+    (Some import_shape, import 0 1, [])
+    ∷ (Some import_shape, zeros 16385, [])
+    ∷ (None, import 0 1, [])
+    ∷ each (λ x. (Some import_shape, x.0, x.1)) (wrong import 6)
 
 -- ---- reading: OK, a grade that is none, TEXT, ROOM, CUT, CODE, NUMBER, NEWER
 
@@ -191,15 +190,15 @@ read_imports =
     ∷ []
 
 -- those that are refused, and one that is whole
-abbrev pub refused_items : List (Found × ℕ × ℕ × List ℕ)
+abbrev pub refused_items : List (Option Shape × ℕ × ℕ × List ℕ)
 refused_items =
-    (found.Is import_shape, 1, 0, 0x00 ∷ 0x00 ∷ 0x01 ∷ 0x00 ∷ [])
-    ∷ (found.Is import_shape, 1, 1, 0x00 ∷ 0x01 ∷ 0xff ∷ [])
-    ∷ (found.Is import_shape, 1, 1, 0x00 ∷ 0x00 ∷ 0x01 ∷ 0x00 ∷ [])
-    ∷ (found.Is import_shape, 1, 1, [])
-    ∷ (found.Is import_shape, 1, 1, 0x01 ∷ [])
-    ∷ (found.Is import_shape, 1, 1, 0x00 ∷ past32)
-    ∷ (found.Is import_shape, 1, 1, 0x02 ∷ [])
+    (Some import_shape, 1, 0, 0x00 ∷ 0x00 ∷ 0x01 ∷ 0x00 ∷ [])
+    ∷ (Some import_shape, 1, 1, 0x00 ∷ 0x01 ∷ 0xff ∷ [])
+    ∷ (Some import_shape, 1, 1, 0x00 ∷ 0x00 ∷ 0x01 ∷ 0x00 ∷ [])
+    ∷ (Some import_shape, 1, 1, [])
+    ∷ (Some import_shape, 1, 1, 0x01 ∷ [])
+    ∷ (Some import_shape, 1, 1, 0x00 ∷ past32)
+    ∷ (Some import_shape, 1, 1, 0x02 ∷ [])
     ∷ []
 
 -- ---- sections

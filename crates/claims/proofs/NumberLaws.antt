@@ -1,5 +1,6 @@
 -- Why fields, rows and items are refused, by a predicate over refusals: what holds of the refusals of each field holds of those of a
 -- whole row or item.
+use Rattle.std.specs.Prelude.{Option, Some, None, Ok, Err}
 use Prim.Native.Nat.{ℕ, zero, suc, ◌+◌}
 use mathlib.Core.Path.{◌≡◌, refl, sym}
 use mathlib.Core.Logic.{◌⊎◌, inl, inr}
@@ -9,18 +10,12 @@ use borrow.Author.Tests.{eqb-true}
 use lib.Dec.{eqb, ltb, leb}
 use lib.ListN.{length, get_or, drop}
 use Rattle.numbers.specs.Text.{text, stop}
-use Rattle.fields.specs.declared.Answer.{Answer}
-use Rattle.fields.specs.declared.Answer.TheVariants.{Size, Refused}
+use Rattle.fields.specs.Answer.{Answer, Refused}
 use Rattle.fields.specs.declared.Field.{Field}
 use Rattle.fields.specs.declared.Field.TheVariants as field
-use Rattle.fields.specs.declared.Flaw.{Flaw}
-use Rattle.fields.specs.declared.Flaw.TheVariants.{Right, Wrong}
-use Rattle.fields.specs.declared.Found.{Found}
-use Rattle.fields.specs.declared.Found.TheVariants.{Is, Not}
-use Rattle.fields.specs.declared.Leaf.{Leaf}
-use Rattle.fields.specs.declared.Leaf.TheVariants.{Fine, Bad}
-use Rattle.fields.specs.declared.Read.{Read}
-use Rattle.fields.specs.declared.Read.TheVariants as read
+use Rattle.fields.specs.Flaw.{Flaw, Right}
+use Rattle.fields.specs.Leaf.{Leaf, Fine}
+use Rattle.fields.specs.Read.{Read}
 use Rattle.fields.specs.declared.Offset.{Offset}
 use Rattle.fields.specs.declared.Refusal.{Refusal}
 use Rattle.fields.specs.declared.Refusal.TheVariants as refusal
@@ -62,33 +57,33 @@ Listed ns w = member (number_of_refusal w) ns ≡ true
 
 abbrev pub Faulty : (Refusal → Type 0) → Flaw → Type 0
 Faulty P Right = Unit {0}
-Faulty P (Wrong w j) = P w
+Faulty P (Err fault) = P fault.why
 
 abbrev pub Ends : (Refusal → Type 0) → Leaf → Type 0
-Ends P (Fine t m) = Unit {0}
-Ends P (Bad w j) = P w
+Ends P (Ok span) = Unit {0}
+Ends P (Err fault) = P fault.why
 
 abbrev pub Tells : (Refusal → Type 0) → Answer → Type 0
-Tells P (Size n) = Unit {0}
-Tells P (Refused w n) = P w
+Tells P (Ok n) = Unit {0}
+Tells P (Err fault) = P fault.why
 
 abbrev pub TellsRead : (Refusal → Type 0) → Read → Type 0
-TellsRead P (read.Item words bytes) = Unit {0}
-TellsRead P (read.Refused w n) = P w
+TellsRead P (Ok item) = Unit {0}
+TellsRead P (Err fault) = P fault.why
 
 pub told : (ns : List ℕ) (a : Answer) → Tells (Listed ns) a → Among (number_of a) (0 ∷ ns)
 unfolding number_of
-told ns (Size n) h = inl refl
-told ns (Refused w n) h = inr (among (number_of_refusal w) ns h)
+told ns (Ok n) h = inl refl
+told ns (Err fault) h = inr (among (number_of_refusal fault.why) ns h)
 
 pub read_told : (ns : List ℕ) (r : Read) → TellsRead (Listed ns) r → Among (number_of_read r) (0 ∷ ns)
-read_told ns (read.Item words bytes) h = inl refl
-read_told ns (read.Refused w n) h = inr (among (number_of_refusal w) ns h)
+read_told ns (Ok item) h = inl refl
+read_told ns (Err fault) h = inr (among (number_of_refusal fault.why) ns h)
 
 -- of a refusal the number is no 0
 pub refusal_told : (ns : List ℕ) (l : Leaf) → TellsRead (Listed ns) (refusal_of l) → Among (number_of_read (refusal_of l)) ns
-refusal_told ns (Fine e q) h = among (number_of_refusal refusal.Room) ns h
-refusal_told ns (Bad w j) h = among (number_of_refusal w) ns h
+refusal_told ns (Ok span) h = among (number_of_refusal refusal.Room) ns h
+refusal_told ns (Err fault) h = among (number_of_refusal fault.why) ns h
 
 -- ---- the words of a field
 
@@ -135,7 +130,7 @@ module _ (P : Refusal → Type 0) (tag : P refusal.Tag) where
 
   then_why : (x y : Flaw) → Faulty P x → Faulty P y → Faulty P (then x y)
   then_why Right y h k = k
-  then_why (Wrong w j) y h k = h
+  then_why (Err fault) y h k = h
 
   value_why : (ws : List ℕ) (i : ℕ) → Faulty P (value ws i)
   unfolding value
@@ -199,7 +194,7 @@ module _ (P : Refusal → Type 0) (tag : P refusal.Tag) where
     where
       go : (x : Flaw) → Faulty P x → Ends P (unless x (Fine (wide f) (length (bytes pool f ws))))
       go Right k = tt
-      go (Wrong w j) k = k
+      go (Err fault) k = k
 
 -- ---- the fields of a plan
 
@@ -250,8 +245,8 @@ module _ (C : Field → Type 0) where
       more t m = walk s (k (s.tell f at xs)) (drop t xs) (at + t) (made + m)
 
       go : (l : Leaf) → Ends P l → ((t m : ℕ) → Ends P (more t m)) → Ends P (next l more at)
-      go (Fine t m) e rest = rest t m
-      go (Bad w j) e rest = e
+      go (Ok span) e rest = rest span.took span.made
+      go (Err fault) e rest = e
 
 -- ---- rows
 
@@ -287,8 +282,8 @@ unfolding measured sized
 measured_why P s row start pool h = rows (ltb 16384 (length row)) refl
   where
     made : (l : Leaf) → Ends P l → Tells P (sized l)
-    made (Bad w j) k = k
-    made (Fine e m) k = tt
+    made (Err fault) k = k
+    made (Ok span) k = tt
 
     widths : (b : Bool) → eqb (row_width s row start) (length row) ≡ b → Tells P (cond b (sized (judged s pool row start)) (Refused refusal.Row 0))
     widths true p =
@@ -310,13 +305,13 @@ measured_why P s row start pool h = rows (ltb 16384 (length row)) refl
     rows false p = pools (ltb 65536 (length pool)) refl
 
 -- a row of a kind: an empty one is ROW, and no kind is KIND
-pub record MeasuresRow (P : Refusal → Type 0) (found : Found) (row pool : List ℕ) : Type 0 where
+pub record MeasuresRow (P : Refusal → Type 0) (found : Option Shape) (row pool : List ℕ) : Type 0 where
   pub limit : P refusal.Limit
-  pub kind : found ≡ Not → P refusal.Kind
+  pub kind : found ≡ None → P refusal.Kind
   pub empty : P refusal.Row
-  pub shape : (s : Shape) → found ≡ Is s → Measures P s row 1 pool
+  pub shape : (s : Shape) → found ≡ Some s → Measures P s row 1 pool
 
-pub measured-row_why : (P : Refusal → Type 0) (found : Found) (row pool : List ℕ) → MeasuresRow P found row pool
+pub measured-row_why : (P : Refusal → Type 0) (found : Option Shape) (row pool : List ℕ) → MeasuresRow P found row pool
     → Tells P (measured_row found row pool)
 unfolding measured_row
 measured-row_why P found row pool h =
@@ -324,15 +319,15 @@ measured-row_why P found row pool h =
     (on_test (Tells P) (ltb 65536 (length pool)) h.limit
     (on_test (Tells P) (eqb (length row) 0) h.empty (go found refl)))
   where
-    go : (f : Found) → found ≡ f → Tells P (measured_found f row pool)
-    go (Is s) e = measured_why P s row 1 pool (h.shape s e)
-    go Not e = h.kind e
+    go : (f : Option Shape) → found ≡ f → Tells P (measured_found f row pool)
+    go (Some s) e = measured_why P s row 1 pool (h.shape s e)
+    go None e = h.kind e
 
 -- bytes of a size that was found, stored
 pub stored_why : (P : Refusal → Type 0) → P refusal.Room → (a : Answer) (bs out : List ℕ) (at : ℕ) → Tells P a → Tells P (stored a bs out at).answer
 unfolding stored
-stored_why P room (Size m) bs out at h = on_test (λ (l : Left). Tells P l.answer) (leb (at + m) (length out)) tt room
-stored_why P room (Refused w n) bs out at h = h
+stored_why P room (Ok m) bs out at h = on_test (λ (l : Left). Tells P l.answer) (leb (at + m) (length out)) tt room
+stored_why P room (Err fault) bs out at h = h
 
 -- ---- tables
 
@@ -374,7 +369,7 @@ shape_why P h s names row pool = record { limit = λ b e k. h.limit; width = λ 
 
 -- the rows of a table
 pub table_why : (P : Refusal → Type 0) → Basic P → (ls : List Line) (k : ℕ)
-    → ((s : Shape) → shape_in ls k ≡ Is s → Each (Allowed P) (plan s)) → (row pool : List ℕ) → Tells P (measured_row (shape_in ls k) row pool)
+    → ((s : Shape) → shape_in ls k ≡ Some s → Each (Allowed P) (plan s)) → (row pool : List ℕ) → Tells P (measured_row (shape_in ls k) row pool)
 table_why P h ls k names row pool =
     measured-row_why P (shape_in ls k) row pool
     (record {

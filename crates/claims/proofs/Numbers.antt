@@ -1,20 +1,19 @@
 -- The numbers of each call: no other can come, and each of them does.
+use Rattle.std.specs.Prelude.{Option, Some, None, Ok, Err}
 use Prim.Native.Nat.{ℕ}
 use native.Mathlib.Omega.{arith}
 use mathlib.Core.Path.{◌≡◌, refl, ap}
 use mathlib.Core.Logic.{◌⊎◌, inl, inr}
 use mathlib.Core.Bool.{Bool, true, false}
 use mathlib.Core.List.{List, [], ◌∷◌, ◌++◌}
-use Rattle.numbers.specs.declared.leb.Taken.{Taken}
-use Rattle.numbers.specs.declared.leb.Taken.TheVariants as taken
+use Rattle.numbers.specs.Taken.{Taken}
+use Rattle.numbers.specs.Taken as taken
 use Rattle.numbers.specs.Bytes.{store, part_of}
 use Rattle.numbers.specs.Leb.{bytes_of, unsigned, signed, take_in, within32, number_in, more, take_unsigned, take_signed}
 use Rattle.numbers.specs.Numbers as numbers
 use Rattle.numbers.specs.Text as text
 use Rattle.numbers.proofs.BytesLaws.{store-either}
-use Rattle.fields.specs.declared.Found.{Found}
-use Rattle.fields.specs.declared.Read.{Read}
-use Rattle.fields.specs.declared.Read.TheVariants as read
+use Rattle.fields.specs.Read.{Read}
 use Rattle.fields.specs.declared.Refusal.TheVariants as refusal
 use Rattle.fields.specs.declared.Shape.{Shape}
 use Rattle.writing.specs.Binary.{name, primvaltype, valtype, optional, resultlist, functype, flag, representation, destructor, canonopt, slot_at, slots_at, slots, externname, slot_inside, extern_inside, extern_part, typebound, externdesc, argument, coresortidx, sortidx, bytes}
@@ -45,8 +44,6 @@ use Rattle.sections.specs.Steps.{Turn, rowing, opening, heading, resulting, aban
 use Rattle.sheets.specs.Frame as frame
 use Rattle.sheets.specs.Frame.{number, words, rows_from}
 use Rattle.sheets.specs.Sheet.{family_of, tries, joined, finished, sheeted}
-use Rattle.cabi.specs.declared.Given.{Given}
-use Rattle.cabi.specs.declared.Given.TheVariants.{Is, Not}
 use Rattle.cabi.specs.Read.{reply_of_read}
 use Rattle.cabi.specs.State as c
 use Rattle.cabi.specs.State.{given, numbers_of, step}
@@ -71,7 +68,7 @@ store_numbers bs at out =
 
 take_numbers : (t : Taken) → Among (numbers.number_of_taken t) (0 ∷ 11 ∷ 13 ∷ [])
 unfolding numbers.number_of_taken
-take_numbers (taken.Value n t) = inl refl
+take_numbers (Ok number) = inl refl
 take_numbers taken.Cut = inr (inl refl)
 take_numbers taken.Bad = inr (inr (inl refl))
 
@@ -84,7 +81,7 @@ module _ (row pool : List ℕ) where
       let P = Listed (1 ∷ 3 ∷ 4 ∷ 5 ∷ 6 ∷ ns) in
       measured_why P s row start pool (any_shape P refl refl refl refl (λ byte. refl) s row start pool)
 
-  found_why : (ns : List ℕ) (found : Found) → Tells (Listed (1 ∷ 2 ∷ 3 ∷ 4 ∷ 5 ∷ 6 ∷ ns)) (measured_row found row pool)
+  found_why : (ns : List ℕ) (found : Option Shape) → Tells (Listed (1 ∷ 2 ∷ 3 ∷ 4 ∷ 5 ∷ 6 ∷ ns)) (measured_row found row pool)
   unfolding number_of_refusal
   found_why ns found =
       let P = Listed (1 ∷ 2 ∷ 3 ∷ 4 ∷ 5 ∷ 6 ∷ ns) in
@@ -94,7 +91,7 @@ module _ (row pool : List ℕ) where
   shape_numbers : (s : Shape) (start : ℕ) → Among (number_of (measured s row start pool)) (0 ∷ 1 ∷ 3 ∷ 4 ∷ 5 ∷ 6 ∷ [])
   shape_numbers s start = told (1 ∷ 3 ∷ 4 ∷ 5 ∷ 6 ∷ []) (measured s row start pool) (shape_why [] s start)
 
-  found_numbers : (found : Found) → Among (number_of (measured_row found row pool)) (0 ∷ 1 ∷ 2 ∷ 3 ∷ 4 ∷ 5 ∷ 6 ∷ [])
+  found_numbers : (found : Option Shape) → Among (number_of (measured_row found row pool)) (0 ∷ 1 ∷ 2 ∷ 3 ∷ 4 ∷ 5 ∷ 6 ∷ [])
   found_numbers found = told (1 ∷ 2 ∷ 3 ∷ 4 ∷ 5 ∷ 6 ∷ []) (measured_row found row pool) (found_why [] found)
 
 -- ---- types: the parts of a function
@@ -134,7 +131,7 @@ head_part words pool out at =
       names = each_any (Allowed (Listed (1 ∷ 3 ∷ 4 ∷ 5 ∷ 6 ∷ 8 ∷ []))) (all-allowed (Listed (1 ∷ 3 ∷ 4 ∷ 5 ∷ 6 ∷ 8 ∷ [])) refl (λ byte. refl)) (plan types.head_shape);
     })
 
-item_numbers : (found : Found) (kind lead g : ℕ) (input row : List ℕ)
+item_numbers : (found : Option Shape) (kind lead g : ℕ) (input row : List ℕ)
     → Among (number_of_read (read_item found kind lead g input row).answer) (0 ∷ 1 ∷ 6 ∷ 8 ∷ 11 ∷ 12 ∷ 13 ∷ 14 ∷ [])
 unfolding number_of_refusal
 item_numbers found kind lead g input row =
@@ -142,7 +139,7 @@ item_numbers found kind lead g input row =
     read_told ns (read_item found kind lead g input row).answer
     (item_why (Listed ns) (record { text = λ byte. refl; cut = refl; code = refl; number = refl; newer = refl }) refl refl found kind lead g input row)
 
-refusal_numbers : (found : Found) (lead g : ℕ) (input : List ℕ)
+refusal_numbers : (found : Option Shape) (lead g : ℕ) (input : List ℕ)
     → Among (number_of_read (refusal_of (scanned_item found lead g input))) (1 ∷ 6 ∷ 8 ∷ 11 ∷ 12 ∷ 13 ∷ 14 ∷ [])
 unfolding number_of_refusal
 refusal_numbers found lead g input =
@@ -278,19 +275,19 @@ step_numbers : (ns : List ℕ) (state : List ℕ) (f : Section → Turn) (body :
 unfolding number_of number_of_refusal
 step_numbers ns state f body h = go (given state)
   where
-    go : (g : Given) → Among (step g f state body).reply.number (0 ∷ 1 ∷ ns)
-    go (Is s) = h s
-    go Not = inr (inl refl)
+    go : (g : Option Section) → Among (step g f state body).reply.number (0 ∷ 1 ∷ ns)
+    go (Some s) = h s
+    go None = inr (inl refl)
 
-finishes_numbers : (g : Given) (body out : List ℕ) → Among (c.finishes g body out).reply.number (0 ∷ 1 ∷ 7 ∷ 8 ∷ 9 ∷ [])
+finishes_numbers : (g : Option Section) (body out : List ℕ) → Among (c.finishes g body out).reply.number (0 ∷ 1 ∷ 7 ∷ 8 ∷ 9 ∷ [])
 unfolding number_of number_of_refusal
-finishes_numbers (Is s) body out = finish_numbers s body out
-finishes_numbers Not body out = inr (inl refl)
+finishes_numbers (Some s) body out = finish_numbers s body out
+finishes_numbers None body out = inr (inl refl)
 
 read_reply : (r : Read) → Among (number_of_read r) (0 ∷ 1 ∷ 6 ∷ 8 ∷ 11 ∷ 12 ∷ 13 ∷ 14 ∷ [])
     → Among (reply_of_read r).number (0 ∷ 1 ∷ 6 ∷ 8 ∷ 11 ∷ 12 ∷ 13 ∷ 14 ∷ [])
-read_reply (read.Item words bytes) h = h
-read_reply (read.Refused w n) h = h
+read_reply (Ok item) h = h
+read_reply (Err fault) h = h
 
 -- the numbers of the inputs to finishing, of which one is too long to compute with
 long : each (λ x. number_of (finishing x.0 x.1 x.2).answer) input.finishes ≡ 0 ∷ 1 ∷ 7 ∷ 8 ∷ 9 ∷ []

@@ -1,5 +1,6 @@
 -- The bytes of an accepted row are those that its production says, in every family, and they are bytes; and so are those of the rows
 -- of a sheet.
+use Rattle.std.specs.Prelude.{Some, None, Ok, Err}
 use Prim.Native.Nat.{ℕ, ◌+◌}
 use native.Mathlib.Omega.{arith}
 use mathlib.Core.Path.{◌≡◌, refl, ap, ◌∙◌, subst}
@@ -11,11 +12,9 @@ use lib.ListN.{drop}
 use Rattle.numbers.specs.Bytes.{Bytes}
 use Rattle.numbers.specs.Leb.{bytes_of, unsigned}
 use Rattle.numbers.proofs.LebLaws.{all-bytes}
-use Rattle.fields.specs.declared.Answer.{Answer}
-use Rattle.fields.specs.declared.Answer.TheVariants.{Size, Refused}
+use Rattle.fields.specs.Answer.{Answer}
 use Rattle.fields.specs.declared.Field.TheVariants as field
-use Rattle.fields.specs.declared.Found.TheVariants.{Is, Not}
-use Rattle.fields.specs.declared.Leaf.TheVariants.{Fine, Bad}
+use Rattle.fields.specs.Leaf.{Fine, Bad}
 use Rattle.fields.specs.declared.Refusal.TheVariants as refusal
 use Rattle.fields.specs.Words.{word, Words, wide}
 use Rattle.writing.specs.Agree.{Row}
@@ -69,13 +68,13 @@ back-bytes (x ∷ a) (some h f) = back-bytes a f
 abbrev lifts : List Line
 lifts = line 256 lift_shape (λ pool ws. outs (writer pool) (plan lift_shape) 1 ws) ∷ []
 
-lift-written : (row pool : List ℕ) (size : ℕ) → word row 0 ≡ 256 → measured_row (Is lift_shape) row pool ≡ Size size → Words row → Bytes pool
+lift-written : (row pool : List ℕ) (size : ℕ) → word row 0 ≡ 256 → measured_row (Some lift_shape) row pool ≡ Ok size → Words row → Bytes pool
     → ByteList (shapes.written lift_shape pool row 1)
 unfolding every shape_in row_bytes widths wide
 lift-written row pool size k e fw fp =
     let t : eqb (word row 0) 256 ≡ true = eq-eqb _ _ k in
-    let r = row_of lifts ((λ pool row e m r. refl), tt) refl row pool size (ap (λ b. measured_row (cond b (Is lift_shape) Not) row pool) t ∙ e) in
-    of_bytes _ (subst (λ b. Bytes (row_bytes (cond b (Is lift_shape) Not) pool row)) t (r.are_bytes fw fp))
+    let r = row_of lifts ((λ pool row e m r. refl), tt) refl row pool size (ap (λ b. measured_row (cond b (Some lift_shape) None) row pool) t ∙ e) in
+    of_bytes _ (subst (λ b. Bytes (row_bytes (cond b (Some lift_shape) None) pool row)) t (r.are_bytes fw fp))
 
 -- a lift's bytes: the options stand last in what the shape writes, and the other parts are numbers
 lift-behind : (row pool : List ℕ) (size : ℕ) → Sized lift_shape row 1 pool size → ByteList (shapes.written lift_shape pool row 1)
@@ -92,20 +91,20 @@ lift-behind (l ∷ c ∷ t ∷ n ∷ os) pool size k f =
     some {b = 0x00} (omega arith)
     (some {b = 0x00} (omega arith) (append-bytes (leb_bytes 5 c) (append-bytes (append-bytes (leb_bytes 5 n) options) (leb_bytes 5 t))))
 
-lift-bytes : (row pool : List ℕ) (size : ℕ) → word row 0 ≡ 256 → measured_row (Is lift_shape) row pool ≡ Size size → Words row → Bytes pool
+lift-bytes : (row pool : List ℕ) (size : ℕ) → word row 0 ≡ 256 → measured_row (Some lift_shape) row pool ≡ Ok size → Words row → Bytes pool
     → ByteList (lift (drop 1 row))
 lift-bytes row pool size k e fw fp =
-    let a = accepted (Is lift_shape) row pool size e in
+    let a = accepted (Some lift_shape) row pool size e in
     let same : a.shape ≡ lift_shape = cc in
     let sized : Sized lift_shape row 1 pool size = rw same at a.sized in
     lift-behind row pool size sized (lift-written row pool size k e fw fp)
 
-canonical_right : (row pool : List ℕ) (size : ℕ) → measured_canonical row pool ≡ Size size
+canonical_right : (row pool : List ℕ) (size : ℕ) → measured_canonical row pool ≡ Ok size
     → Right row pool (canonical_bytes pool row) (production_by Canonicals pool row)
 unfolding measured_canonical canonical_bytes
 canonical_right row pool size e = go (eqb (word row 0) 256) refl e
   where
-    go : (b : Bool) → eqb (word row 0) 256 ≡ b → measured_row (cond b (Is lift_shape) (shape_in canonicalTable.table (word row 0))) row pool ≡ Size size
+    go : (b : Bool) → eqb (word row 0) 256 ≡ b → measured_row (cond b (Some lift_shape) (shape_in canonicalTable.table (word row 0))) row pool ≡ Ok size
         → Right row pool (cond b (lift (drop 1 row)) (row_bytes (shape_in canonicalTable.table (word row 0)) pool row))
         (cond b (lift (drop 1 row)) (line_of canonicalTable.table pool row))
     go true t e = record { as_production = refl; are_bytes = λ fw fp. to_bytes (lift-bytes row pool size (eqb-true _ _ t) e fw fp) }
@@ -113,12 +112,12 @@ canonical_right row pool size e = go (eqb (word row 0) 256) refl e
 
 -- ---- every family
 
-pub family-right : (family : ℕ) (row pool : List ℕ) (size : ℕ) → measured_family family row pool ≡ Size size
+pub family-right : (family : ℕ) (row pool : List ℕ) (size : ℕ) → measured_family family row pool ≡ Ok size
     → Right row pool (family_bytes family pool row) (production family pool row)
 unfolding measured_family family_bytes production
 family-right family row pool size e = go (entries_of family) e
   where
-    go : (x : Entries) → measured_by x row pool ≡ Size size → Right row pool (bytes_by x pool row) (production_by x pool row)
+    go : (x : Entries) → measured_by x row pool ≡ Ok size → Right row pool (bytes_by x pool row) (production_by x pool row)
     go Types e = of_line (type_row row pool size e)
     go Canonicals e = canonical_right row pool size e
     go Imports e = of_line (import-row row pool size e)
@@ -126,7 +125,7 @@ family-right family row pool size e = go (entries_of family) e
     go Instances e = of_line (instance_row row pool size e)
     go None e = impossible cc
 
-pub family-production : (family : ℕ) (row pool : List ℕ) (size : ℕ) → measured_family family row pool ≡ Size size
+pub family-production : (family : ℕ) (row pool : List ℕ) (size : ℕ) → measured_family family row pool ≡ Ok size
     → family_bytes family pool row ≡ production family pool row
 family-production family row pool size e = (family-right family row pool size e).as_production
 
@@ -141,8 +140,8 @@ joined-productions family pool room (row ∷ rows) r used last all e =
     go : (a : Answer) → measured_family family row pool ≡ a → tried a room used r (λ u. tries family pool room rows (r + 1) u) ≡ Fine last all
         → ((u : ℕ) → tries family pool room rows (r + 1) u ≡ Fine last all → joined family pool rows ≡ productions family (beside pool rows))
         → family_bytes family pool row ++ joined family pool rows ≡ production family pool row ++ productions family (beside pool rows)
-    go (Refused w n) m e ih = impossible cc
-    go (Size n) m e ih = fits (leb (used + n) room) e
+    go (Err fault) m e ih = impossible cc
+    go (Ok n) m e ih = fits (leb (used + n) room) e
       where
         fits : (b : Bool) → cond b (tries family pool room rows (r + 1) (used + n)) (Bad refusal.Room r) ≡ Fine last all
             → family_bytes family pool row ++ joined family pool rows ≡ production family pool row ++ productions family (beside pool rows)

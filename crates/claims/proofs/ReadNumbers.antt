@@ -1,23 +1,22 @@
 -- Why an item is refused: each fault of a field is TEXT, CUT, CODE, NUMBER or NEWER, and so is each of an item.
+use Rattle.std.specs.Prelude.{Option, Some, None, Ok, Err}
 use Prim.Native.Nat.{ℕ, ◌+◌, ◌-◌, ◌^◌}
 use mathlib.Core.List.{List}
 use lib.Dec.{eqb, ltb, leb}
 use lib.ListN.{length, take, drop}
-use Rattle.numbers.specs.declared.leb.Taken.{Taken}
-use Rattle.numbers.specs.declared.leb.Taken.TheVariants as taken
+use Rattle.numbers.specs.Taken.{Taken}
+use Rattle.numbers.specs.Taken as taken
 use Rattle.numbers.specs.Leb.{take_unsigned, take_signed}
 use Rattle.numbers.specs.Text.{text, stop}
 use Rattle.fields.specs.declared.Field.{Field}
 use Rattle.fields.specs.declared.Field.TheVariants as field
-use Rattle.fields.specs.declared.Found.{Found}
-use Rattle.fields.specs.declared.Found.TheVariants.{Is, Not}
-use Rattle.fields.specs.declared.Leaf.{Leaf}
-use Rattle.fields.specs.declared.Leaf.TheVariants.{Fine, Bad}
+use Rattle.fields.specs.Leaf.{Leaf, Fine}
 use Rattle.fields.specs.declared.Refusal.{Refusal}
 use Rattle.fields.specs.declared.Refusal.TheVariants as refusal
 use Rattle.fields.specs.Words.{indexed}
 use Rattle.fields.specs.Answers.{LeftRow, offset_of}
 use Rattle.reading.specs.Read.{reader, scanned, filled, roomed, read_found, read_item, scanned_found, scanned_item, refusal_of}
+use Rattle.fields.specs.declared.Shape.{Shape}
 use Rattle.fields.specs.declared.Site.TheVariants.{CanonOption}
 use Rattle.fields.specs.Grades.{grade_of}
 use Rattle.reading.specs.Scan.{chosen, byte, there, asked, past, numbered, scan_index, named, scan_name, scan_primitive, scan_value, zero_at, either, scan_optional, then_zero, scan_result, scan_choice, onward, string_at, counted, count_at, slot_scan, end_scan, head_scan, first_scan, second_scan, scan_extern, scan_bound, scan_module, three, scan_reference, scan_either, scan_optional_index, scan, scan_argument, scan_core_sort_index, scan_sort_index}
@@ -43,11 +42,11 @@ module _ (P : Refusal → Type 0) (h : Scans P) where
   asked_why g n j l k = on_test Why (ltb g n) h.newer k
 
   past_why : (n : ℕ) (l : Leaf) → Why l → Why (past n l)
-  past_why n (Fine t m) k = tt
-  past_why n (Bad w j) k = k
+  past_why n (Ok span) k = tt
+  past_why n (Err fault) k = k
 
   numbered_why : (bs : List ℕ) (t : Taken) (m : ℕ) → Why (numbered bs t m)
-  numbered_why bs (taken.Value n t) m = tt
+  numbered_why bs (Ok number) m = tt
   numbered_why bs taken.Cut m = h.cut
   numbered_why bs taken.Bad m = h.number
 
@@ -60,7 +59,9 @@ module _ (P : Refusal → Type 0) (h : Scans P) where
   name_why bs = go (take_unsigned bs)
     where
       go : (t : Taken) → Why (named bs t)
-      go (taken.Value n t) = on_test Why (leb (t + n) (length bs)) (on_test Why (text (take n (drop t bs))) tt (h.text (offset_of (stop (take n (drop t bs)))))) h.cut
+      go (Ok number) =
+          let cs = take number.value (drop number.took bs) in
+          on_test Why (leb (number.took + number.value) (length bs)) (on_test Why (text cs) tt (h.text (offset_of (stop cs)))) h.cut
       go taken.Cut = h.cut
       go taken.Bad = h.number
 
@@ -87,8 +88,8 @@ module _ (P : Refusal → Type 0) (h : Scans P) where
       either_why bs 0x00 (Fine 1 2) 0x01 (past 1 (scan_value g (drop 1 bs))) tt (past_why 1 (scan_value g (drop 1 bs)) (value_why g (drop 1 bs)))
 
   then_zero_why : (bs : List ℕ) (l : Leaf) → Why l → Why (then_zero bs l)
-  then_zero_why bs (Fine t m) k = zero_why bs t (Fine (t + 1) m) tt
-  then_zero_why bs (Bad w j) k = k
+  then_zero_why bs (Ok span) k = zero_why bs span.took (Fine (span.took + 1) span.made) tt
+  then_zero_why bs (Err fault) k = k
 
   result_why : (g : ℕ) (bs : List ℕ) → Why (scan_result g bs)
   unfolding scan_result
@@ -109,8 +110,8 @@ module _ (P : Refusal → Type 0) (h : Scans P) where
   -- ---- extern names
 
   onward_why : (l : Leaf) (k : ℕ → ℕ → Leaf) → Why l → ((at due : ℕ) → Why (k at due)) → Why (onward l k)
-  onward_why (Fine at due) k e f = f at due
-  onward_why (Bad w j) k e f = e
+  onward_why (Ok span) k e f = f span.took span.made
+  onward_why (Err fault) k e f = e
 
   string_why : (bs : List ℕ) (at due : ℕ) → Why (string_at bs at due)
   string_why bs at due =
@@ -122,7 +123,7 @@ module _ (P : Refusal → Type 0) (h : Scans P) where
   count_why bs at = go (take_unsigned (drop at bs))
     where
       go : (t : Taken) → Why (counted (length bs) t at)
-      go (taken.Value n t) = on_test Why (eqb n 0) h.code (on_test Why (ltb n 4) tt h.code)
+      go (Ok number) = on_test Why (eqb number.value 0) h.code (on_test Why (ltb number.value 4) tt h.code)
       go taken.Cut = h.cut
       go taken.Bad = h.number
 
@@ -150,8 +151,8 @@ module _ (P : Refusal → Type 0) (h : Scans P) where
   -- ---- references
 
   three_why : (l : Leaf) → Why l → Why (three l)
-  three_why (Fine t m) k = tt
-  three_why (Bad w j) k = k
+  three_why (Ok span) k = tt
+  three_why (Err fault) k = k
 
   reference_why : (g : ℕ) (bs : List ℕ) → Why (scan_reference g bs)
   unfolding scan_reference scan_module scan_bound
@@ -202,17 +203,17 @@ module _ (P : Refusal → Type 0) (h : Scans P) where
 
     roomed_why : (l : Leaf) (ws row : List ℕ) → Why l → Says (roomed l ws row)
     unfolding roomed
-    roomed_why (Bad w j) ws row k = k
-    roomed_why (Fine e q) ws row k = on_test Says (ltb 16384 q) room (on_test Says (leb q (length row)) tt room)
+    roomed_why (Err fault) ws row k = k
+    roomed_why (Ok span) ws row k = on_test Says (ltb 16384 span.made) room (on_test Says (leb span.made (length row)) tt room)
 
-    found_why : (found : Found) (kind lead g : ℕ) (input row : List ℕ) → Says (read_found found kind lead g input row)
-    found_why (Is s) kind lead g input row =
+    found_why : (found : Option Shape) (kind lead g : ℕ) (input row : List ℕ) → Says (read_found found kind lead g input row)
+    found_why (Some s) kind lead g input row =
         roomed_why (scanned lead g s input) (filled kind lead g s input) row
         (walk_why (λ f. Unit {0}) P (reader lead g input) (λ f bs u. scan_why lead g f bs) (plan s)
         (each_any (λ f. Unit {0}) (λ f. tt) (plan s)) input 0 1)
-    found_why Not kind lead g input row = h.code
+    found_why None kind lead g input row = h.code
 
-    pub item_why : (found : Found) (kind lead g : ℕ) (input row : List ℕ) → Says (read_item found kind lead g input row)
+    pub item_why : (found : Option Shape) (kind lead g : ℕ) (input row : List ℕ) → Says (read_item found kind lead g input row)
     unfolding read_item
     item_why found kind lead g input row =
         on_test Says (ltb (2 ^ 30) (length input)) limit
@@ -220,7 +221,7 @@ module _ (P : Refusal → Type 0) (h : Scans P) where
         (on_test Says (ltb 3 g) limit (on_test Says (eqb (length input) 0) h.cut (found_why found kind lead g input row))))
 
     -- an item that is not read
-    pub refusal_why : (found : Found) (lead g : ℕ) (input : List ℕ) → TellsRead P (refusal_of (scanned_item found lead g input))
+    pub refusal_why : (found : Option Shape) (lead g : ℕ) (input : List ℕ) → TellsRead P (refusal_of (scanned_item found lead g input))
     unfolding scanned_item
     refusal_why found lead g input =
         refused (scanned_item found lead g input)
@@ -228,11 +229,11 @@ module _ (P : Refusal → Type 0) (h : Scans P) where
         (on_test Why (ltb g 1) limit (on_test Why (ltb 3 g) limit (on_test Why (eqb (length input) 0) h.cut (scanned_why found)))))
       where
         refused : (l : Leaf) → Why l → TellsRead P (refusal_of l)
-        refused (Fine e q) k = room
-        refused (Bad w j) k = k
+        refused (Ok span) k = room
+        refused (Err fault) k = k
 
-        scanned_why : (f : Found) → Why (scanned_found f lead g input)
-        scanned_why (Is s) =
+        scanned_why : (f : Option Shape) → Why (scanned_found f lead g input)
+        scanned_why (Some s) =
             walk_why (λ x. Unit {0}) P (reader lead g input) (λ x bs u. scan_why lead g x bs) (plan s)
             (each_any (λ x. Unit {0}) (λ x. tt) (plan s)) input 0 1
-        scanned_why Not = h.code
+        scanned_why None = h.code

@@ -1,4 +1,5 @@
 -- The proof of `specs/Sizes.antt`: the bound is that of the families' tables (`no_larger`), and the largest row is seen name by name.
+use Rattle.std.specs.Prelude.{Ok}
 use Prim.Native.Nat.{ℕ, zero, suc, ◌+◌, ◌*◌, ◌^◌, ◌≤◌, ◌<◌}
 use native.Mathlib.Nat.{suc-mul}
 use native.Mathlib.Omega.{arith}
@@ -13,9 +14,8 @@ use Rattle.numbers.specs.Leb.{bytes_of, unsigned}
 use Rattle.numbers.specs.Text.{text, rest, step}
 use Rattle.numbers.proofs.TextLaws.{text-append}
 use Rattle.numbers.proofs.Impossible.{impossible}
-use Rattle.fields.specs.declared.Answer.TheVariants.{Size}
 use Rattle.fields.specs.declared.Field.TheVariants as field
-use Rattle.fields.specs.declared.Flaw.TheVariants.{Right}
+use Rattle.fields.specs.Flaw.{Right}
 use Rattle.fields.specs.declared.Shape.{Shape}
 use Rattle.fields.specs.Shape.{repeated, widths, row_width}
 use Rattle.fields.specs.Table.{elements, shape_in}
@@ -43,11 +43,11 @@ use Rattle.claims.specs.Sizes.{names, largest_flags, largest_pool, NoRowTooBig}
 
 -- ---- the bound
 
-row_bound : (family : ℕ) (row pool : List ℕ) (size : ℕ) → measured_family family row pool ≡ Size size → size ≤ largest_row
+row_bound : (family : ℕ) (row pool : List ℕ) (size : ℕ) → measured_family family row pool ≡ Ok size → size ≤ largest_row
 unfolding measured_family
 row_bound family row pool size e = go (entries_of family) e
   where
-    go : (x : Entries) → measured_by x row pool ≡ Size size → size ≤ largest_row
+    go : (x : Entries) → measured_by x row pool ≡ Ok size → size ≤ largest_row
     go Types e = (type_row row pool size e).no_larger
     go Canonicals e = canonical_no_larger row pool size e
     go Imports e = (import-row row pool size e).no_larger
@@ -56,17 +56,17 @@ row_bound family row pool size e = go (entries_of family) e
     go None e = impossible cc
 
 -- words that stand behind no kind are those of a row
-step_bound : (s : Shape) → bounded s ≡ true → (words pool : List ℕ) (size : ℕ) → measured s words 0 pool ≡ Size size
+step_bound : (s : Shape) → bounded s ≡ true → (words pool : List ℕ) (size : ℕ) → measured s words 0 pool ≡ Ok size
     → (row_width s words 0 ≡ length words → length words ≤ 16384 → length words < 16384) → size ≤ largest_row
 step_bound s t words pool size e short =
     let k = measured_sized s words 0 pool refl size e in
     no_larger s t (0 ∷ words) pool size (step_row s pool words k (short k.width k.short)).0
 
-head_bound : (words pool : List ℕ) (size : ℕ) → measured head_shape words 0 pool ≡ Size size → size ≤ largest_row
+head_bound : (words pool : List ℕ) (size : ℕ) → measured head_shape words 0 pool ≡ Ok size → size ≤ largest_row
 unfolding row_width widths wide
 head_bound words pool size e = step_bound head_shape refl words pool size e (λ w h. omega (arith, w, h))
 
-result_bound : (tag x : ℕ) (size : ℕ) → measured result_shape (tag ∷ x ∷ []) 0 [] ≡ Size size → size ≤ largest_row
+result_bound : (tag x : ℕ) (size : ℕ) → measured result_shape (tag ∷ x ∷ []) 0 [] ≡ Ok size → size ≤ largest_row
 unfolding widths wide
 result_bound tag x size e = step_bound result_shape refl (tag ∷ x ∷ []) [] size e (λ w h. omega arith)
 
@@ -118,7 +118,7 @@ module _ (m : ℕ) where
         )
 
     flags_measured : (n : ℕ) → m ≤ 65536 → n ≤ 8191
-        → measured_type (7 ∷ n ∷ names n m) pool ≡ Size (1 + (length (unsigned n) + n * (length (unsigned m) + m)))
+        → measured_type (7 ∷ n ∷ names n m) pool ≡ Ok (1 + (length (unsigned n) + n * (length (unsigned m) + m)))
     unfolding measured_type shape_in widths wide
     flags_measured n small few =
         counted_known 0x6e field.Name field.Nothing {w = 2} refl (7 ∷ n ∷ names n m) pool (name_element pool) (omega arith)
@@ -147,10 +147,10 @@ largest_size : 1 + (length (unsigned 8191) + 8191 * (length (unsigned 65536) + 6
 unfolding bytes_of
 largest_size = refl
 
-largest_met : measured_family 7 largest_flags largest_pool ≡ Size largest_row
+largest_met : measured_family 7 largest_flags largest_pool ≡ Ok largest_row
 unfolding measured_family largest_flags
 largest_met =
-    flags_measured 65536 largest_pool largest_length largest_text 8191 (omega arith) (omega arith) ∙ ap Size largest_size
+    flags_measured 65536 largest_pool largest_length largest_text 8191 (omega arith) (omega arith) ∙ ap Ok largest_size
 
 pub no_row_too_big : NoRowTooBig
 no_row_too_big =

@@ -1,4 +1,5 @@
 -- Why a row of each family, a step of a section, its finishing and a sheet are refused, by a predicate over refusals.
+use Rattle.std.specs.Prelude.{Some, Ok, Err}
 use Prim.Native.Nat.{ℕ, ◌+◌}
 use mathlib.Core.Path.{◌≡◌, refl}
 use mathlib.Core.Bool.{Bool, true, false, cond}
@@ -6,11 +7,8 @@ use mathlib.Core.List.{List, [], ◌∷◌}
 use lib.Dec.{eqb, ltb, leb}
 use lib.ListN.{length, take}
 use Rattle.numbers.specs.Leb.{unsigned}
-use Rattle.fields.specs.declared.Answer.{Answer}
-use Rattle.fields.specs.declared.Answer.TheVariants.{Size, Refused}
-use Rattle.fields.specs.declared.Found.TheVariants.{Is}
-use Rattle.fields.specs.declared.Leaf.{Leaf}
-use Rattle.fields.specs.declared.Leaf.TheVariants.{Fine, Bad}
+use Rattle.fields.specs.Answer.{Answer}
+use Rattle.fields.specs.Leaf.{Leaf}
 use Rattle.fields.specs.declared.Refusal.{Refusal}
 use Rattle.fields.specs.declared.Refusal.TheVariants as refusal
 use Rattle.fields.specs.declared.Shape.{Shape}
@@ -59,9 +57,9 @@ module _ (P : Refusal → Type 0) where
   unfolding measured_canonical every
   canonical_why h row pool = go (eqb (word row 0) 256)
     where
-      go : (b : Bool) → Tells P (measured_row (cond b (Is lift_shape) (shape_in canonicals.table (word row 0))) row pool)
+      go : (b : Bool) → Tells P (measured_row (cond b (Some lift_shape) (shape_in canonicals.table (word row 0))) row pool)
       go true =
-          measured-row_why P (Is lift_shape) row pool
+          measured-row_why P (Some lift_shape) row pool
           (record {
             limit = h.limit;
             kind = λ e. h.kind;
@@ -111,8 +109,8 @@ module _ (P : Refusal → Type 0) (limit : P refusal.Limit) (s : Section) (body 
   wrote_why count phase l h = go l.answer h
     where
       go : (a : Answer) → Tells P a → Tells P (taken s a count phase).answer
-      go (Size n) k = tt
-      go (Refused w n) k = k
+      go (Ok n) k = tt
+      go (Err fault) k = k
 
   pub row_why : P refusal.Room → P refusal.Order → P refusal.Count → Named P → (row pool : List ℕ) → Turns (rowing s row pool body)
   unfolding rowing
@@ -195,7 +193,7 @@ module _ (P : Refusal → Type 0) (limit : P refusal.Limit) (s : Section) (body 
       on_test Says (sounds s (length body))
       (on_test Says (opened s.phase) order
       (on_test Says (ltb 4294967295 (length (unsigned s.count) + length (take s.used body))) big
-      (stored_why P room (Size (length whole)) whole out 0 tt)))
+      (stored_why P room (Ok (length whole)) whole out 0 tt)))
       limit
     where
       Says : Left → Type 0
@@ -217,8 +215,8 @@ module _ (P : Refusal → Type 0) (room : P refusal.Room) (h : Named P) where
       more u = tries family pool size rows (r + 1) u
 
       go : (a : Answer) → Tells P a → ((u : ℕ) → Ends P (more u)) → Ends P (tried a size used r more)
-      go (Size m) k rest = on_test (Ends P) (leb (used + m) size) (rest (used + m)) room
-      go (Refused w n) k rest = k
+      go (Ok m) k rest = on_test (Ends P) (leb (used + m) size) (rest (used + m)) room
+      go (Err fault) k rest = k
 
   abbrev Sheets : sheet.Left → Type 0
   Sheets l = Tells P l.answer
@@ -228,8 +226,8 @@ module _ (P : Refusal → Type 0) (room : P refusal.Room) (h : Named P) where
   sheet_why broken input body out = on_test Sheets (ltb 65536 (length input)) h.basic.limit (go (frame.framed input))
     where
       end : (l : Leaf) (family : ℕ) (bytes : List ℕ) → Ends P l → Sheets (sheet.written l family bytes body out)
-      end (Fine r used) family bytes k = on_test Sheets (leb (length (sheet.section family r bytes)) (length out)) tt room
-      end (Bad w r) family bytes k = k
+      end (Ok span) family bytes k = on_test Sheets (leb (length (sheet.section family span.took bytes)) (length out)) tt room
+      end (Err fault) family bytes k = k
 
       go : (rs : Rows) → Sheets (of_rows rs (pool_of input) body out)
       go Broken = broken

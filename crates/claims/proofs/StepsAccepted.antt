@@ -1,4 +1,5 @@
 -- A function in steps is accepted exactly when its row is: both have the same fields to judge, and their sizes add up.
+use Rattle.std.specs.Prelude.{Some, None, Ok, Err}
 use Prim.Native.Nat.{ℕ, zero, suc, ◌+◌, ◌*◌, ◌≤◌}
 use native.Mathlib.Omega.{arith}
 use mathlib.Core.Logic.{◌↔◌}
@@ -10,14 +11,11 @@ use lib.Dec.{eqb, ltb}
 use lib.ListN.{length, drop, length-append}
 use lib.Seq.{sets}
 use Rattle.numbers.specs.Leb.{unsigned}
-use Rattle.fields.specs.declared.Answer.{Answer}
-use Rattle.fields.specs.declared.Answer.TheVariants.{Size}
+use Rattle.fields.specs.Answer.{Answer}
 use Rattle.fields.specs.declared.Field.{Field}
 use Rattle.fields.specs.declared.Field.TheVariants as field
-use Rattle.fields.specs.declared.Flaw.{Flaw}
-use Rattle.fields.specs.declared.Flaw.TheVariants.{Right, Wrong}
-use Rattle.fields.specs.declared.Found.TheVariants.{Is, Not}
-use Rattle.fields.specs.declared.Leaf.TheVariants.{Fine}
+use Rattle.fields.specs.Flaw.{Flaw, Right}
+use Rattle.fields.specs.Leaf.{Fine}
 use Rattle.fields.specs.declared.Refusal.TheVariants as refusal
 use Rattle.fields.specs.declared.Shape.{Shape}
 use Rattle.fields.specs.Words.{word, wide}
@@ -31,6 +29,7 @@ use Rattle.fields.specs.Walk.{next}
 use Rattle.fields.specs.Answers.{left}
 use Rattle.writing.specs.Write.{written, sized, measured, stored, write_shape}
 use Rattle.fields.specs.Answers as answers
+use Rattle.fields.proofs.OutcomeLaws.{fine-same}
 use Rattle.writing.proofs.AnswerLaws.{Sized, measured_sized}
 use Rattle.writing.proofs.PutLaws.{all_fields, judged_along}
 use Rattle.writing.proofs.TableLaws.{strings}
@@ -86,7 +85,7 @@ fine-rights pool (f ∷ fs) ws at made e m h =
         → (along (judge pool) fs (drop (wide f) ws) (at + wide f) (made + length (bytes pool f ws)) ≡ Fine e m → Rights pool fs (drop (wide f) ws))
         → (x ≡ Right) × Rights pool fs (drop (wide f) ws)
     go Right h ih = (refl, ih h)
-    go (Wrong w j) h ih = impossible cc
+    go (Err fault) h ih = impossible cc
 
 -- the same of the fields of a shape
 abbrev ShapeRights : Shape → List ℕ → ℕ → List ℕ → Type 0
@@ -101,7 +100,7 @@ sized-rights shape row start pool size k =
     let e = sym (judged_along shape pool row start) ∙ k.judges in
     let r = fine-rights pool (all_fields shape row start) (drop start row) start 0 k.end size e in
     let f = sym e ∙ rights-fine pool (all_fields shape row start) (drop start row) start 0 r in
-    let n : size ≡ 0 + shape_size shape row start pool = cc in
+    let n = (fine-same f).1 in
     (r, omega (arith, n))
 
 rights-sized : (shape : Shape) (row : List ℕ) (start : ℕ) (pool : List ℕ) (size : ℕ) → row_width shape row start ≡ length row → length row ≤ 16384
@@ -118,7 +117,7 @@ rights-sized shape row start pool size w h k r e =
     }
 
 sized-measured : (shape : Shape) (row : List ℕ) (start : ℕ) (pool : List ℕ) (size : ℕ) → Sized shape row start pool size
-    → measured shape row start pool ≡ Size size
+    → measured shape row start pool ≡ Ok size
 unfolding measured sized
 sized-measured shape row start pool size k = simp (le-ltb _ _ k.short, le-ltb _ _ k.small, eq-eqb _ _ k.width, k.judges)
 
@@ -150,7 +149,7 @@ result_right tag x size k =
     let r = sized-rights result_shape (tag ∷ x ∷ []) 0 [] size k in
     (r.0.1.1.0, omega (arith, r.1, length-append (resultlist tag x) []))
 
-right_result : (tag x : ℕ) → RightResult tag x → measured result_shape (tag ∷ x ∷ []) 0 [] ≡ Size (length (resultlist tag x))
+right_result : (tag x : ℕ) → RightResult tag x → measured result_shape (tag ∷ x ∷ []) 0 [] ≡ Ok (length (resultlist tag x))
 unfolding flaw wide strings bytes widths row_width
 right_result tag x r =
     let size = length (resultlist tag x) in
@@ -166,7 +165,7 @@ head_right (a ∷ n ∷ ws) pool size k =
     let r = sized-rights head_shape (a ∷ n ∷ ws) 0 pool size k in
     (record { width = omega (arith, k.width); small = k.small; async = r.0.1.1.0; params = r.0.1.1.1.1.1 }, omega (arith, r.1))
 
-right_head : (words pool : List ℕ) → length words ≤ 16384 → RightHead words pool → measured head_shape words 0 pool ≡ Size (head_size words pool)
+right_head : (words pool : List ℕ) → length words ≤ 16384 → RightHead words pool → measured head_shape words 0 pool ≡ Ok (head_size words pool)
 unfolding flaw wide strings bytes widths row_width
 right_head [] pool short k = absurd (omega (arith, k.width))
 right_head (a ∷ []) pool short k = absurd (omega (arith, k.width))
@@ -263,20 +262,20 @@ right-row (a ∷ n ∷ ws) pool tag x h rh rr =
 
 -- ---- what is accepted
 
-size_same : {m n : ℕ} → Size m ≡ Size n → m ≡ n
+size_same : {m n : ℕ} → ◌≡◌ {A = Answer} (Ok m) (Ok n) → m ≡ n
 size_same e = cc
 
 -- what has a size and the room for it is accepted
-stored_accepts : (s : Section) (body : List ℕ) (count : ℕ) (phase : Phase) (r : Answer) (bs : List ℕ) (size : ℕ) → r ≡ Size size
+stored_accepts : (s : Section) (body : List ℕ) (count : ℕ) (phase : Phase) (r : Answer) (bs : List ℕ) (size : ℕ) → r ≡ Ok size
     → s.used + size ≤ length body → Accepted (wrote s count phase (stored r bs body s.used))
 unfolding stored
 stored_accepts s body count phase r bs size e h =
     rw e
-    (subst (λ b. Accepted (wrote s count phase (cond b (left (Size size) (sets body s.used bs)) (answers.refuse refusal.Room size body))))
+    (subst (λ b. Accepted (wrote s count phase (cond b (left (Ok size) (sets body s.used bs)) (answers.refuse refusal.Room size body))))
     (sym (le-leb (s.used + size) (length body) h)) tt)
 
 shape_accepts : (s : Section) (body : List ℕ) (count : ℕ) (phase : Phase) (shape : Shape) (words pool : List ℕ) (size : ℕ)
-    → measured shape words 0 pool ≡ Size size → s.used + size ≤ length body
+    → measured shape words 0 pool ≡ Ok size → s.used + size ≤ length body
     → Accepted (wrote s count phase (write_shape shape words 0 pool body s.used))
 unfolding write_shape
 shape_accepts s body count phase shape words pool size e h =
@@ -298,16 +297,16 @@ module _ (s : Section) (body : List ℕ) (words pool : List ℕ) (tag x : ℕ) w
       (refuse s refusal.Limit body)
 
   -- only the types have a kind 15
-  row_types : (family size : ℕ) → measured_family family row pool ≡ Size size → (family ≡ 7) × (measured_row (Is function_shape) row pool ≡ Size size)
+  row_types : (family size : ℕ) → measured_family family row pool ≡ Ok size → (family ≡ 7) × (measured_row (Some function_shape) row pool ≡ Ok size)
   unfolding measured_family measured_type measured_canonical measured_import measured_core_instance measured_instance shape_in
   row_types family size e = go (eqb family 7) refl (eqb family 8) (eqb family 10) (eqb family 2) (eqb family 5) e
     where
-      unknown : measured_row Not row pool ≡ Size size → ⊥
-      unknown e = let q = (whole.accepted Not row pool size e).is in let z : ◌≡◌ {A = ℕ} 0 1 = cc in omega arith
+      unknown : measured_row None row pool ≡ Ok size → ⊥
+      unknown e = let q = (whole.accepted None row pool size e).is in let z : ◌≡◌ {A = ℕ} 0 1 = cc in omega arith
 
       go : (b : Bool) → eqb family 7 ≡ b → (c d f g : Bool)
-          → measured_by (cond b Types (cond c Canonicals (cond d Imports (cond f CoreInstances (cond g Instances None))))) row pool ≡ Size size
-          → (family ≡ 7) × (measured_row (Is function_shape) row pool ≡ Size size)
+          → measured_by (cond b Types (cond c Canonicals (cond d Imports (cond f CoreInstances (cond g Instances None))))) row pool ≡ Ok size
+          → (family ≡ 7) × (measured_row (Some function_shape) row pool ≡ Ok size)
       go true p c d f g e = (eqb-true _ _ p, e)
       go false p true d f g e = absurd (unknown e)
       go false p false true f g e = absurd (unknown e)
@@ -332,7 +331,7 @@ module _ (s : Section) (body : List ℕ) (words pool : List ℕ) (tag x : ℕ) w
   row_accepts : Ready s body → (size : ℕ) → Sized function_shape row 1 pool size → s.used + size ≤ length body → Accepted (rowing s row pool body)
   unfolding rowing measured_family measured_type shape_in widths wide
   row_accepts r size k h =
-      let m : measured_family s.family row pool ≡ Size size =
+      let m : measured_family s.family row pool ≡ Ok size =
       ap (λ f. measured_family f row pool) r.types ∙ sized-accepted function_shape row pool size k in
       let closed : opened s.phase ≡ false = ap opened r.closed in
       let e : rowed_by (sounds s (length body)) (ltb 16384 (length row)) (ltb 65536 (length pool)) (opened s.phase) (eqb s.count 4294967295)
@@ -354,7 +353,7 @@ module _ (s : Section) (body : List ℕ) (words pool : List ℕ) (tag x : ℕ) w
       let turns = row_turns s body row pool in
       let t = row_types s.family _ (accepted_size turns k) in
       let g = accepted_grows turns k in
-      let found = whole.accepted (Is function_shape) row pool _ t.1 in
+      let found = whole.accepted (Some function_shape) row pool _ t.1 in
       let same : found.shape ≡ function_shape = cc in
       let parts = row-right words pool tag x _ (subst (λ z. Sized z row 1 pool (length (family_bytes s.family pool row))) same found.sized) in
       record {

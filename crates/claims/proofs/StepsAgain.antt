@@ -1,4 +1,5 @@
 -- A step that was refused for room left all as it was, and is accepted over a body that has the room that it named.
+use Rattle.std.specs.Prelude.{Ok, Err}
 use Prim.Native.Nat.{ℕ, ◌+◌, ◌≤◌}
 use native.Mathlib.Omega.{arith}
 use mathlib.Core.Path.{◌≡◌, sym, ap, ◌∙◌, subst}
@@ -8,14 +9,14 @@ use borrow.Author.Tests.{le-ltb, le-leb}
 use lib.Dec.{eqb, ltb, leb}
 use lib.ListN.{length}
 use lib.Seq.{sets}
-use Rattle.fields.specs.declared.Answer.{Answer}
-use Rattle.fields.specs.declared.Answer.TheVariants.{Size, Refused}
+use Rattle.fields.specs.Answer.{Answer, Refused}
 use Rattle.fields.specs.declared.Refusal.{Refusal}
 use Rattle.fields.specs.declared.Refusal.TheVariants as refusal
 use Rattle.fields.specs.declared.Shape.{Shape}
 use Rattle.fields.specs.Answers.{Left, left}
 use Rattle.writing.specs.Write.{written, measured, stored, write_shape}
 use Rattle.fields.specs.Answers as answers
+use Rattle.fields.proofs.OutcomeLaws.{refused-same}
 use Rattle.types.specs.Write.{head_shape, result_shape}
 use Rattle.sections.specs.declared.Phase.{Phase}
 use Rattle.sections.specs.declared.Phase.TheVariants.{Closed, Opened, Headed}
@@ -63,11 +64,11 @@ family-other family row pool =
 
 record Again (s : Section) (body : List ℕ) (t : List ℕ → Turn) : Type 0 where
   tries : (n : ℕ) → (t body).gave.answer ≡ Refused refusal.Room n
-      → (t body ≡ turned (refused s refusal.Room n) body) × ((new : List ℕ) → s.used + n ≤ length new → (t new).gave.answer ≡ Size n)
+      → (t body ≡ turned (refused s refusal.Room n) body) × ((new : List ℕ) → s.used + n ≤ length new → (t new).gave.answer ≡ Ok n)
 
 module _ (s : Section) (body : List ℕ) where
   refuse_again : (w : Refusal) → Other w → Again s body (refuse s w)
-  refuse_again w o = record { tries = λ n e. let z : w ≡ refusal.Room = cc in absurd (subst Other z o) }
+  refuse_again w o = record { tries = λ n e. absurd (subst Other (refused-same e).0 o) }
 
   -- a test that does not look at the body, and refuses; one that says whether the section can stand over it
   unless_again : (b : Bool) (w : Refusal) {t : List ℕ → Turn} → Other w → Again s body t → Again s body (λ x. cond b (refuse s w x) (t x))
@@ -83,32 +84,32 @@ module _ (s : Section) (body : List ℕ) where
 
       go : (n : ℕ) (b c : Bool) → (over b c (t body) body).gave.answer ≡ Refused refusal.Room n
           → (over b c (t body) body ≡ turned (refused s refusal.Room n) body)
-          × ((new : List ℕ) → s.used + n ≤ length new → (over (ltb (length new) s.used) c (t new) new).gave.answer ≡ Size n)
+          × ((new : List ℕ) → s.used + n ≤ length new → (over (ltb (length new) s.used) c (t new) new).gave.answer ≡ Ok n)
       go n false true e =
           let h = k.tries n e in
           (h.0, λ new room. ap (λ b. (over b true (t new) new).gave.answer) (le-ltb (length new) s.used (omega (arith, room))) ∙ h.1 new room)
-      go n false false e = impossible cc
-      go n true c e = impossible cc
+      go n false false e = let why = (refused-same e).0 in impossible cc
+      go n true c e = let why = (refused-same e).0 in impossible cc
 
   -- what is stored behind the used part
   stored_again : (r : Answer) (bs : List ℕ) (count : ℕ) (phase : Phase) → Tells Other r
       → Again s body (λ x. wrote s count phase (stored r bs x s.used))
   unfolding stored
-  stored_again (Size m) bs count phase o = record { tries = λ n e. go n (leb (s.used + m) (length body)) e }
+  stored_again (Ok m) bs count phase o = record { tries = λ n e. go n (leb (s.used + m) (length body)) e }
     where
       at : Bool → List ℕ → Turn
-      at b x = wrote s count phase (cond b (left (Size m) (sets x s.used bs)) (answers.refuse refusal.Room m x))
+      at b x = wrote s count phase (cond b (left (Ok m) (sets x s.used bs)) (answers.refuse refusal.Room m x))
 
       go : (n : ℕ) (b : Bool) → (at b body).gave.answer ≡ Refused refusal.Room n
           → (at b body ≡ turned (refused s refusal.Room n) body)
-          × ((new : List ℕ) → s.used + n ≤ length new → (at (leb (s.used + m) (length new)) new).gave.answer ≡ Size n)
+          × ((new : List ℕ) → s.used + n ≤ length new → (at (leb (s.used + m) (length new)) new).gave.answer ≡ Ok n)
       go n true e = impossible cc
       go n false e =
-          let q : m ≡ n = cc in (
+          let q = (refused-same e).1 in (
             ap (λ k. turned (refused s refusal.Room k) body) q,
-            λ new room. ap (λ b. (at b new).gave.answer) (le-leb (s.used + m) (length new) (omega (arith, room, q))) ∙ ap Size q,
+            λ new room. ap (λ b. (at b new).gave.answer) (le-leb (s.used + m) (length new) (omega (arith, room, q))) ∙ ap Ok q,
           )
-  stored_again (Refused w m) bs count phase o = record { tries = λ n e. let z : w ≡ refusal.Room = cc in absurd (subst Other z o) }
+  stored_again (Err fault) bs count phase o = record { tries = λ n e. absurd (subst Other (refused-same e).0 o) }
 
   wrote_again : (r : Answer) (bs : List ℕ) (l : List ℕ → Left) (count : ℕ) (phase : Phase) → Tells Other r
       → ((x : List ℕ) → l x ≡ stored r bs x s.used) → Again s body (λ x. wrote s count phase (l x))
@@ -138,7 +139,7 @@ module _ (s : Section) (body : List ℕ) where
   abandon_again (Opened start) = record { tries = λ n e. impossible cc }
   abandon_again (Headed start) = record { tries = λ n e. impossible cc }
 
-  types_again : (b : Bool) → Again s body (λ x. cond b (turned (taken s (Size 0) (s.count + 1) (Opened s.used)) x) (refuse s refusal.Kind x))
+  types_again : (b : Bool) → Again s body (λ x. cond b (turned (taken s (Ok 0) (s.count + 1) (Opened s.used)) x) (refuse s refusal.Kind x))
   types_again true = record { tries = λ n e. impossible cc }
   types_again false = refuse_again refusal.Kind tt
 
@@ -165,5 +166,5 @@ module _ (s : Section) (body : List ℕ) where
 
 pub tried_again : (k : Step) (s : Section) (body : List ℕ) (n : ℕ) → (turn k s body).gave.answer ≡ Refused refusal.Room n
     → (turn k s body ≡ turned (refused s refusal.Room n) body)
-    × ((new : List ℕ) → s.used + n ≤ length new → (turn k s new).gave.answer ≡ Size n)
+    × ((new : List ℕ) → s.used + n ≤ length new → (turn k s new).gave.answer ≡ Ok n)
 tried_again k s body n e = (turn_again s body k).tries n e

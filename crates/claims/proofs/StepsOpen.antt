@@ -1,4 +1,5 @@
 -- What an opening needs, what holds of a section while its entry is open, and what abandoning the entry leaves.
+use Rattle.std.specs.Prelude.{Ok}
 use Prim.Native.Nat.{ℕ, ◌+◌, ◌-◌, ◌≤◌, ◌<◌}
 use native.Mathlib.Omega.{arith}
 use mathlib.Core.Logic.{inl}
@@ -10,8 +11,7 @@ use lib.Dec.{eqb, ltb}
 use lib.ListN.{length, get_or}
 use lib.Seq.{length-sets}
 use Rattle.numbers.proofs.BytesLaws.{sets-outside}
-use Rattle.fields.specs.declared.Answer.{Answer}
-use Rattle.fields.specs.declared.Answer.TheVariants.{Size}
+use Rattle.fields.specs.Answer.{Answer}
 use Rattle.fields.specs.declared.Refusal.{Refusal}
 use Rattle.fields.specs.declared.Refusal.TheVariants as refusal
 use Rattle.types.specs.Write.{head_shape, result_shape}
@@ -46,7 +46,7 @@ module _ (s : Section) (body : List ℕ) where
       cond b
       (cond c (refuse s refusal.Order body)
       (cond d (refuse s refusal.Count body)
-      (cond e (turned (taken s (Size 0) (s.count + 1) (Opened s.used)) body) (refuse s refusal.Kind body))))
+      (cond e (turned (taken s (Ok 0) (s.count + 1) (Opened s.used)) body) (refuse s refusal.Kind body))))
       (refuse s refusal.Limit body)
 
   pub open_ready : Accepted (opening s body) → Ready s body
@@ -208,16 +208,16 @@ runs-inside s body (x ∷ steps) t new k o =
 -- ---- abandoning
 
 abandon_back : (s : Section) (body : List ℕ) (t : Section) (new : List ℕ) → s.phase ≡ Closed → s.family ≡ 7 → Inside s body t new
-    → opened t.phase ≡ true → abandoning t new ≡ turned (gives s (Size 0)) new
+    → opened t.phase ≡ true → abandoning t new ≡ turned (gives s (Ok 0)) new
 unfolding abandoning
 abandon_back s body t new c f k o = simp (inside_sounds k o) (go t.phase k.start o)
   where
-    back : (start : ℕ) → start ≡ s.used → turned (withdrawn t start) new ≡ turned (gives s (Size 0)) new
+    back : (start : ℕ) → start ≡ s.used → turned (withdrawn t start) new ≡ turned (gives s (Ok 0)) new
     back start e =
         let n : t.count - 1 ≡ s.count = omega (arith, k.counts) in
-        λ i. turned (gives (record { family = (k.types ∙ sym f) i; used = e i; count = n i; phase = sym c i }) (Size 0)) new
+        λ i. turned (gives (record { family = (k.types ∙ sym f) i; used = e i; count = n i; phase = sym c i }) (Ok 0)) new
 
-    go : (p : Phase) → start_of p ≡ s.used → opened p ≡ true → abandon_in p t new ≡ turned (gives s (Size 0)) new
+    go : (p : Phase) → start_of p ≡ s.used → opened p ≡ true → abandon_in p t new ≡ turned (gives s (Ok 0)) new
     go Closed e o = impossible cc
     go (Opened start) e o = back start e
     go (Headed start) e o = back start e
@@ -229,7 +229,7 @@ abandoned s body steps a o =
     let t = opening s body in
     let k = runs-inside s body steps t.gave.section t.body (open-inside s body a) o in
     let u = runs steps t.gave.section t.body in
-    let e : abandoning u.section u.body ≡ turned (gives s (Size 0)) u.body =
+    let e : abandoning u.section u.body ≡ turned (gives s (Ok 0)) u.body =
     abandon_back s body u.section u.body r.closed r.types k.0 k.1 in
     record {
       accepted = subst Accepted (sym e) tt;

@@ -1,5 +1,6 @@
 -- Types: what was written is read back, or refused at its first byte above the grade; and what is accepted is written again beside its own
 -- bytes.
+use Rattle.std.specs.Prelude.{Some, Ok}
 use Prim.Native.Nat.{ℕ, ◌-◌, ◌^◌, ◌≤◌, ◌<◌}
 use native.Mathlib.Omega.{arith}
 use mathlib.Core.Path.{◌≡◌, refl, sym, ap, ◌∙◌, subst}
@@ -9,13 +10,10 @@ use borrow.Author.Tests.{lt-ltb, le-ltb, ltb-true, eqb-true, eqb-false}
 use lib.Dec.{eqb, ltb}
 use lib.ListN.{length, take, drop, length-append}
 use Rattle.numbers.specs.Bytes.{Bytes}
-use Rattle.fields.specs.declared.Answer.TheVariants.{Size}
 use Rattle.fields.specs.declared.Field.TheVariants as field
-use Rattle.fields.specs.declared.Flaw.TheVariants.{Right, Wrong}
-use Rattle.fields.specs.declared.Found.TheVariants.{Is}
-use Rattle.fields.specs.declared.Leaf.{Leaf}
-use Rattle.fields.specs.declared.Leaf.TheVariants.{Fine}
-use Rattle.fields.specs.declared.Read.TheVariants.{Item}
+use Rattle.fields.specs.Flaw.{Right, Wrong}
+use Rattle.fields.specs.Leaf.{Leaf, Fine}
+use Rattle.fields.specs.Read.{Item}
 use Rattle.fields.specs.declared.Refusal.TheVariants as refusal
 use Rattle.fields.specs.declared.Shape.{Shape}
 use Rattle.fields.specs.Words.{word, Words, wide}
@@ -86,7 +84,7 @@ Begins l =
     (pool row rest : List ℕ) (e m : ℕ) → judged l.shape pool row 1 ≡ Fine e m
     → (kind_of (byte (l.production pool (drop 1 row) ++ rest) 0) ≡ l.kind) × (1 ≤ length (l.production pool (drop 1 row)))
 
-begins_in : (ls : List Line) → All Begins ls → (k : ℕ) (s : Shape) → shape_in ls k ≡ Is s
+begins_in : (ls : List Line) → All Begins ls → (k : ℕ) (s : Shape) → shape_in ls k ≡ Some s
     → (pool row rest : List ℕ) (e m : ℕ) → judged s pool row 1 ≡ Fine e m
     → (kind_of (byte (production_in ls k pool (drop 1 row) ++ rest) 0) ≡ k) × (1 ≤ length (production_in ls k pool (drop 1 row)))
 unfolding shape_in production_in
@@ -96,8 +94,8 @@ begins_in (l ∷ ls) a k s f pool row rest e m r = go (eqb k l.kind) refl f (λ 
     bytes : Bool → List ℕ
     bytes b = cond b (l.production pool (drop 1 row)) (production_in ls k pool (drop 1 row))
 
-    go : (b : Bool) → eqb k l.kind ≡ b → cond b (Is l.shape) (shape_in ls k) ≡ Is s
-        → (shape_in ls k ≡ Is s
+    go : (b : Bool) → eqb k l.kind ≡ b → cond b (Some l.shape) (shape_in ls k) ≡ Some s
+        → (shape_in ls k ≡ Some s
         → (kind_of (byte (production_in ls k pool (drop 1 row) ++ rest) 0) ≡ k) × (1 ≤ length (production_in ls k pool (drop 1 row))))
         → (kind_of (byte (bytes b ++ rest) 0) ≡ k) × (1 ≤ length (bytes b))
     go true t f ih =
@@ -158,7 +156,7 @@ types-begin = (
   ),
 )
 
-pub type-first : (row pool rest : List ℕ) (m : ℕ) → measured_type row pool ≡ Size m
+pub type-first : (row pool rest : List ℕ) (m : ℕ) → measured_type row pool ≡ Ok m
     → (kind_of (byte (type_bytes pool row ++ rest) 0) ≡ word row 0) × (1 ≤ length (type_bytes pool row))
 unfolding measured_type
 type-first row pool rest m e =
@@ -168,7 +166,7 @@ type-first row pool rest m e =
 
 -- ---- reading
 
-pub type-back : (g : ℕ) (row pool : List ℕ) (m : ℕ) → Words row → measured_type row pool ≡ Size m
+pub type-back : (g : ℕ) (row pool : List ℕ) (m : ℕ) → Words row → measured_type row pool ≡ Ok m
     → (rest input room : List ℕ) → input ≡ type_bytes pool row ++ rest → 1 ≤ g → g ≤ 3 → length input ≤ 2 ^ 30
     → ReadsBack (shape_of (word row 0)) (type_mark g pool row) pool row input room m (read_type g input room)
 unfolding measured_type read_type type_mark

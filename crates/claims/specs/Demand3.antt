@@ -1,15 +1,13 @@
 -- Demand 3: what was written of a valid row, with anything behind it, is read back at every grade as that item, or refused as NEWER at
 -- the first byte that marks a form above the grade; and no other item is ever returned for it. What was read is written again as the
 -- same item, in no more bytes.
-use Rattle.std.specs.Prelude.{ℕ, ◌≤◌, ◌<◌, ◌≡◌, cond, ◌⊎◌, List, [], ◌∷◌, ◌++◌, eqb, length, take, drop}
+use Rattle.std.specs.Prelude.{ℕ, ◌≤◌, ◌<◌, ◌≡◌, cond, ◌⊎◌, List, [], ◌∷◌, ◌++◌, eqb, length, take, drop, Option, Some, None, Ok}
 use Rattle.std.proofs.lemmas.List.Edits.{sets}
 use Rattle.numbers.specs.Again.{Again}
 use Rattle.numbers.specs.Bytes.{Bytes}
-use Rattle.fields.specs.declared.Answer.TheVariants.{Size}
-use Rattle.fields.specs.declared.Found.{Found}
-use Rattle.fields.specs.declared.Found.TheVariants.{Is, Not}
-use Rattle.fields.specs.declared.Read.TheVariants.{Item, Refused}
+use Rattle.fields.specs.Read.{Item, Refused}
 use Rattle.fields.specs.declared.Refusal.TheVariants as refusal
+use Rattle.fields.specs.declared.Shape.{Shape}
 use Rattle.fields.specs.declared.Site.{Site}
 use Rattle.fields.specs.declared.Site.TheVariants.{Primitive, TypeLead, NameLead, CanonLead, CanonOption}
 use Rattle.fields.specs.Grades.{grade_of}
@@ -46,18 +44,18 @@ abbrev pub reads : ℕ → ℕ → List ℕ → List ℕ → LeftRow
 reads family g input room = reads_by (entries_of family) g input room
 
 -- the shape of a kind
-abbrev pub shape_by : Entries → ℕ → Found
+abbrev pub shape_by : Entries → ℕ → Option Shape
 shape_by Types k = typeWrite.shape_of k
 shape_by Canonicals k = canonicalWrite.shape_of k
 shape_by Imports k = importWrite.shape_of k
 shape_by CoreInstances k = instanceWrite.core_shape_of k
 shape_by Instances k = instanceWrite.shape_of k
-shape_by None k = Not
+shape_by None k = None
 
 -- "same item" as the row, whose kind has a shape
-abbrev pub SameBy : Found → List ℕ → List ℕ → List ℕ → List ℕ → Type 0
-SameBy (Is s) pool row input words = SameItem s pool row input words
-SameBy Not pool row input words = ⊥
+abbrev pub SameBy : Option Shape → List ℕ → List ℕ → List ℕ → List ℕ → Type 0
+SameBy (Some s) pool row input words = SameItem s pool row input words
+SameBy None pool row input words = ⊥
 
 abbrev pub Same : ℕ → List ℕ → List ℕ → List ℕ → List ℕ → Type 0
 Same family pool row input words = SameBy (shape_by (entries_of family) (word row 0)) pool row input words
@@ -72,7 +70,7 @@ type_last row = take 2 row ++ (drop 3 row ++ word row 2 ∷ [])
 
 unfoldable pub canonical_mark : ℕ → List ℕ → List ℕ → Mark
 canonical_mark g pool row =
-    cond (eqb (word row 0) 256) (row_mark (Is lift_bytes) 1 g pool (type_last row))
+    cond (eqb (word row 0) 256) (row_mark (Some lift_bytes) 1 g pool (type_last row))
     (row_mark (canonicalWrite.shape_of (word row 0)) (canonicalRead.lead_grade (word row 0)) g pool row)
 
 unfoldable pub import_mark : ℕ → List ℕ → List ℕ → Mark
@@ -132,7 +130,7 @@ ReadBack Clear family pool row input room l =
 pub record WrittenAgain (family g : ℕ) (taken row : List ℕ) : Type 0 where
   -- it is accepted, and written as its production
   pub writes : (out : List ℕ) (at : ℕ)
-      → write_family family row taken out at ≡ stored (Size (length (production family taken row))) (production family taken row) out at
+      → write_family family row taken out at ≡ stored (Ok (length (production family taken row))) (production family taken row) out at
   -- byte for byte what was taken, but each number in its shortest form
   pub padded : Padded taken (production family taken row)
   -- so in no more bytes than were taken; in exactly those where they are as many, and where they are some row's, with no number padded
@@ -179,5 +177,5 @@ pub record Demand3 : Type 0 where
       → WrittenAgain family g (take bytes input) (take words after)
   -- "same item" is not met by names that only run together alike: the flags are written as those bytes, and the other words are not the
   -- same item
-  pub not_the_same : ((out : List ℕ) (at : ℕ) → write_family 7 flags_row flags_pool out at ≡ stored (Size 6) flags_bytes out at)
+  pub not_the_same : ((out : List ℕ) (at : ℕ) → write_family 7 flags_row flags_pool out at ≡ stored (Ok 6) flags_bytes out at)
       × (Same 7 flags_pool flags_row flags_bytes other_words → ⊥)

@@ -1,13 +1,12 @@
 -- Demand 1, (b) and (c): a refusal changes nothing that is lent; what is accepted changes only the bytes or words that it counts, and
 -- the state as document 01 tells.
-use Rattle.std.specs.Prelude.{ℕ, ◌+◌, ◌-◌, ◌≤◌, ◌<◌, ◌≡◌, ◌⊎◌, List, [], ◌∷◌, ◌++◌, length, get_or}
+use Rattle.std.specs.Prelude.{ℕ, ◌+◌, ◌-◌, ◌≤◌, ◌<◌, ◌≡◌, ◌⊎◌, List, [], ◌∷◌, ◌++◌, length, get_or, Some, Ok, Err}
 use Rattle.numbers.specs.Bytes as bytes
 use Rattle.numbers.specs.Bytes.{store, part_of}
 use Rattle.numbers.specs.Leb.{unsigned, signed}
 use Rattle.numbers.specs.Numbers as numbers
-use Rattle.fields.specs.declared.Answer.{Answer}
-use Rattle.fields.specs.declared.Read.{Read}
-use Rattle.fields.specs.declared.Read.TheVariants as read
+use Rattle.fields.specs.Answer.{Answer}
+use Rattle.fields.specs.Read.{Read}
 use Rattle.writing.specs.Binary.{valtype, extern_part}
 use Rattle.fields.specs.Answers.{LeftRow, number_of_refusal, number_of, value_of, Left}
 use Rattle.writing.specs.Write.{write_shape}
@@ -27,7 +26,6 @@ use Rattle.sections.specs.Runs.{Step, Row, Open, Head, Result, Abandon, turn}
 use Rattle.sections.specs.Section.{write_family}
 use Rattle.sections.specs.Steps.{Turn, turned, gives}
 use Rattle.sheets.specs.Sheet.{sheeted}
-use Rattle.cabi.specs.declared.Given.TheVariants.{Is}
 use Rattle.cabi.specs.Read.{of_read}
 use Rattle.cabi.specs.Sheet.{of_sheet}
 use Rattle.cabi.specs.State.{given, start_number, numbers_of, Stepped, step, finishes}
@@ -51,12 +49,12 @@ abbrev pub Writes : ℕ → List ℕ → Left → Type 0
 Writes at out l = Kept (number_of l.answer) at (value_of l.answer) out l.buffer
 
 abbrev pub number_of_read : Read → ℕ
-number_of_read (read.Item words bytes) = 0
-number_of_read (read.Refused w n) = number_of_refusal w
+number_of_read (Ok item) = 0
+number_of_read (Err fault) = number_of_refusal fault.why
 
 abbrev pub words_of_read : Read → ℕ
-words_of_read (read.Item words bytes) = words
-words_of_read (read.Refused w n) = 0
+words_of_read (Ok item) = item.words
+words_of_read (Err fault) = 0
 
 abbrev pub Reads : List ℕ → LeftRow → Type 0
 Reads row l = Kept (number_of_read l.answer) 0 (words_of_read l.answer) row l.row
@@ -83,7 +81,7 @@ pub record Turns (k : Step) (s : Section) (t : Turn) : Type 0 where
 -- the same of five numbers: a state that a step takes has only one form
 pub record Counts (k : Step) (state : List ℕ) (t : Stepped) : Type 0 where
   pub refused : (t.reply.number ≡ 0 → ⊥) → t.state ≡ state
-  pub accepted : t.reply.number ≡ 0 → (s : Section) × (given state ≡ Is s) × (t.state ≡ numbers_of (told k s t.reply.value))
+  pub accepted : t.reply.number ≡ 0 → (s : Section) × (given state ≡ Some s) × (t.state ≡ numbers_of (told k s t.reply.value))
 
 -- ---- a sheet: the rows' bytes stand at the front of the body, and the section at the front of the output
 

@@ -4,10 +4,10 @@ use Rattle.std.specs.Prelude.{ℕ, ◌+◌, ◌≡◌, ◌↔◌, true, false, L
 use Rattle.numbers.specs.Beginnings.{LongestBeginning}
 use Rattle.numbers.specs.Leb.{take_unsigned}
 use Rattle.numbers.specs.Text.{text, spelling_of}
-use Rattle.numbers.specs.declared.leb.Taken.TheVariants as taken
-use Rattle.numbers.specs.declared.text.Spelling.TheVariants.{Right, Stops}
-use Rattle.fields.specs.declared.Flaw.TheVariants as flaw
-use Rattle.fields.specs.declared.Leaf.TheVariants as leaf
+use Rattle.numbers.specs.Taken as taken
+use Rattle.numbers.specs.Spelling.{Right, Stops}
+use Rattle.fields.specs.Flaw as flaw
+use Rattle.fields.specs.Leaf as leaf
 use Rattle.fields.specs.declared.Offset.{Offset}
 use Rattle.fields.specs.declared.Refusal.TheVariants as refusal
 use Rattle.fields.specs.Answers.{byte_at}

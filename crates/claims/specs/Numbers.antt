@@ -1,9 +1,8 @@
 -- Demand 1, (d): the numbers of document 01 with which each call can answer, each met by an input, and that no other can come.
-use Rattle.std.specs.Prelude.{ℕ, ◌≡◌, ◌⊎◌, List, [], ◌∷◌, ◌++◌}
+use Rattle.std.specs.Prelude.{ℕ, ◌≡◌, ◌⊎◌, List, [], ◌∷◌, ◌++◌, Option}
 use Rattle.numbers.specs.Bytes.{store, part_of}
 use Rattle.numbers.specs.Leb.{unsigned, signed, take_unsigned, take_signed}
 use Rattle.numbers.specs.Numbers as numbers
-use Rattle.fields.specs.declared.Found.{Found}
 use Rattle.fields.specs.declared.Shape.{Shape}
 use Rattle.writing.specs.Binary.{valtype, extern_part}
 use Rattle.reading.specs.Read.{scanned_item, refusal_of}
@@ -50,8 +49,8 @@ pub record RefusesBy : Type 0 where
   pub take_signed : Exactly (List ℕ) (λ x. numbers.number_of_taken (take_signed x)) (0 ∷ 11 ∷ 13 ∷ [])
   -- fields: by every shape
   pub measure_shape : Exactly (Shape × List ℕ × ℕ × List ℕ) (λ x. number_of (measured x.0 x.1 x.2 x.3)) (0 ∷ 1 ∷ 3 ∷ 4 ∷ 5 ∷ 6 ∷ [])
-  pub measure_row : Exactly (Found × List ℕ × List ℕ) (λ x. number_of (measured_row x.0 x.1 x.2)) (0 ∷ 1 ∷ 2 ∷ 3 ∷ 4 ∷ 5 ∷ 6 ∷ [])
-  pub item_refusal : Exactly (Found × ℕ × ℕ × List ℕ) (λ x. number_of_read (refusal_of (scanned_item x.0 x.1 x.2 x.3))) (1 ∷ 6 ∷ 8 ∷ 11 ∷ 12 ∷ 13 ∷ 14 ∷ [])
+  pub measure_row : Exactly (Option Shape × List ℕ × List ℕ) (λ x. number_of (measured_row x.0 x.1 x.2)) (0 ∷ 1 ∷ 2 ∷ 3 ∷ 4 ∷ 5 ∷ 6 ∷ [])
+  pub item_refusal : Exactly (Option Shape × ℕ × ℕ × List ℕ) (λ x. number_of_read (refusal_of (scanned_item x.0 x.1 x.2 x.3))) (1 ∷ 6 ∷ 8 ∷ 11 ∷ 12 ∷ 13 ∷ 14 ∷ [])
   -- writing
   pub put_value : Exactly (ℕ × ℕ × ℕ × List ℕ) (λ x. numbers.number_of (store (valtype x.0 x.1) x.2 x.3).answer) (0 ∷ 8 ∷ [])
   pub put_name : Exactly (List ℕ × ℕ × ℕ × ℕ × List ℕ) (λ x. numbers.number_of (store (unsigned x.2 ++ part_of x.0 x.1 x.2) x.3 x.4).answer) (0 ∷ 8 ∷ [])

@@ -1,7 +1,7 @@
 -- Steps: a function in steps is accepted exactly when its row is, and is then the same; what is opened can be abandoned; a step that
 -- was refused for room can be tried again.
-use Rattle.std.specs.Prelude.{ℕ, ◌+◌, ◌≤◌, ◌<◌, ◌≡◌, ◌↔◌, true, List, [], ◌∷◌, ◌++◌, length, get_or}
-use Rattle.fields.specs.declared.Answer.TheVariants.{Size, Refused}
+use Rattle.std.specs.Prelude.{ℕ, ◌+◌, ◌≤◌, ◌<◌, ◌≡◌, ◌↔◌, true, List, [], ◌∷◌, ◌++◌, length, get_or, Ok}
+use Rattle.fields.specs.Answer.{Refused}
 use Rattle.fields.specs.declared.Refusal.TheVariants as refusal
 use Rattle.sections.specs.declared.Section.{Section}
 use Rattle.sections.specs.Runs.{Step, Row, Open, Head, Result, Abandon, turn, runs, Accepted, AllAccepted}
@@ -48,4 +48,4 @@ pub record StepsAreRows : Type 0 where
   -- a step that was refused for room left all as it was, and over a body that has the room that it named it is accepted
   pub tried_again : (k : Step) (s : Section) (body : List ℕ) (n : ℕ) → (turn k s body).gave.answer ≡ Refused refusal.Room n
       → (turn k s body ≡ turned (refused s refusal.Room n) body)
-      × ((new : List ℕ) → s.used + n ≤ length new → (turn k s new).gave.answer ≡ Size n)
+      × ((new : List ℕ) → s.used + n ≤ length new → (turn k s new).gave.answer ≡ Ok n)

@@ -6,7 +6,7 @@ use Rattle.numbers.specs.Bytes.{Bytes}
 use Rattle.numbers.specs.Exact.{TakenExactly}
 use Rattle.numbers.specs.Integers.{Integer, Form}
 use Rattle.numbers.specs.Leb.{bytes_of, take_in}
-use Rattle.numbers.specs.declared.leb.Taken.TheVariants.{Value}
+use Rattle.numbers.specs.Taken.{Value}
 
 pub record NumbersTaken : Type 0 where
   pub exactly : {end sign : ℕ} → Form end sign → TakenExactly end sign

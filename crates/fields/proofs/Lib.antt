@@ -1,3 +1,4 @@
+pub mod OutcomeLaws
 pub mod GradeLaws
 pub mod LoopLaws
 pub mod NearLaws

@@ -1,4 +1,5 @@
 -- Walks in steps, in either direction: one field, fields after others, and a loop over groups.
+use Rattle.std.specs.Prelude.{Err, Ok}
 use Prim.Native.Nat.{ℕ, suc, ◌+◌, ◌-◌, ◌≤◌, ◌<◌}
 use native.Mathlib.Omega.{arith}
 use mathlib.Core.Path.{◌≡◌, refl, sym, ap, ◌∙◌}
@@ -6,8 +7,8 @@ use mathlib.Core.List.{List, [], ◌∷◌, ◌++◌}
 use lib.ListN.{drop}
 use Rattle.fields.specs.declared.Field.{Field}
 use Rattle.fields.specs.declared.Refusal.{Refusal}
-use Rattle.fields.specs.declared.Leaf.{Leaf}
-use Rattle.fields.specs.declared.Leaf.TheVariants.{Fine, Bad}
+use Rattle.fields.specs.Leaf.{Leaf}
+use Rattle.fields.specs.Leaf.{Fine, Bad}
 use Rattle.fields.specs.inside.Run.{along, onward, after}
 use Rattle.fields.specs.Shape.{repeated}
 use Rattle.fields.proofs.RunLaws.{along-append}
@@ -28,8 +29,8 @@ pub after_both : (L : Field → List ℕ → Leaf) (xs : List ℕ) (so l m : Lea
 after_both L xs so l m fs gs el em = em ∙ ap (λ l. after l (onward L xs gs)) el ∙ go so
   where
     go : (so : Leaf) → after (after so (onward L xs fs)) (onward L xs gs) ≡ after so (onward L xs (fs ++ gs))
-    go (Fine at made) = sym (along-append L fs gs xs at made)
-    go (Bad w j) = refl
+    go (Ok span) = sym (along-append L fs gs xs span.took span.made)
+    go (Err fault) = refl
 
 -- two fields one by one are walked as the two: where the first is fine, and where it is not
 module _ (L : Field → List ℕ → Leaf) (xs : List ℕ) (f g : Field) (at made : ℕ) (l : Leaf) (el : l ≡ onward L xs (f ∷ []) at made) where

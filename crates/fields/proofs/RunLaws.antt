@@ -1,4 +1,6 @@
 -- Walks over lists of fields, one after the other, and the plan of a shape in the stages that code has.
+use Rattle.fields.proofs.OutcomeLaws.{fine-same}
+use Rattle.std.specs.Prelude.{Err, Ok}
 use Prim.Native.Nat.{ℕ, ◌+◌, ◌≤◌}
 use native.Mathlib.Omega.{arith}
 use mathlib.Core.Path.{◌≡◌, refl, sym, ap, ◌∙◌}
@@ -6,8 +8,8 @@ use mathlib.Core.List.{List, [], ◌∷◌, ◌++◌, append_assoc}
 use lib.ListN.{drop}
 use lib.Seq.{drop-drop}
 use Rattle.fields.specs.declared.Field.{Field}
-use Rattle.fields.specs.declared.Leaf.{Leaf}
-use Rattle.fields.specs.declared.Leaf.TheVariants.{Fine, Bad}
+use Rattle.fields.specs.Leaf.{Leaf}
+use Rattle.fields.specs.Leaf.{Fine, Bad}
 use Rattle.fields.specs.inside.Run.{along, makes, after, Under}
 use Rattle.fields.specs.Walk.{Plan, end, step, Side, next, took, walk, outs}
 use Rattle.fields.specs.Shape.{seq}
@@ -25,8 +27,8 @@ along-append L (f ∷ fs) gs xs at made = go (L f (drop at xs)) (λ t m. along-a
         ≡ after (along L fs (drop (at + t) xs) (at + t) (made + m)) (λ a m. along L gs (drop a xs) a m))
         → next l (λ t m. along L (fs ++ gs) (drop t (drop at xs)) (at + t) (made + m)) at
         ≡ after (next l (λ t m. along L fs (drop t (drop at xs)) (at + t) (made + m)) at) (λ a m. along L gs (drop a xs) a m)
-    go (Fine t m) ih = rw (drop-drop t at xs) (ih t m)
-    go (Bad w j) ih = refl
+    go (Ok span) ih = rw (drop-drop span.took at xs) (ih span.took span.made)
+    go (Err fault) ih = refl
 
 -- what a list of fields at the front of a plan makes, and one that is the whole plan
 seq-append : (fs gs : List Field) (p : Plan) → seq (fs ++ gs) p ≡ seq fs (seq gs p)
@@ -42,7 +44,7 @@ outs-last s (f ∷ fs) at xs = ap (λ l. s.make f at xs ++ l) (outs-last s fs (a
 pub outs-seq : (s : Side) (xs : List ℕ) (fs : List Field) (p : Plan) (at made a m : ℕ) → along s.look fs (drop at xs) at made ≡ Fine a m
     → outs s (seq fs p) at (drop at xs) ≡ makes s.look s.make fs at (drop at xs) ++ outs s p a (drop a xs)
 unfolding outs seq along makes
-outs-seq s xs [] p at made a m e = let q : at ≡ a = cc in ap (λ n. outs s p n (drop n xs)) q
+outs-seq s xs [] p at made a m e = ap (λ n. outs s p n (drop n xs)) (fine-same e).0
 outs-seq s xs (f ∷ fs) p at made a m e = go (s.look f (drop at xs)) e (λ t k. outs-seq s xs fs p (at + t) (made + k) a m)
   where
     go : (l : Leaf) → next l (λ t k. along s.look fs (drop t (drop at xs)) (at + t) (made + k)) at ≡ Fine a m
@@ -50,12 +52,12 @@ outs-seq s xs (f ∷ fs) p at made a m e = go (s.look f (drop at xs)) e (λ t k.
         → outs s (seq fs p) (at + t) (drop (at + t) xs) ≡ makes s.look s.make fs (at + t) (drop (at + t) xs) ++ outs s p a (drop a xs))
         → s.make f at (drop at xs) ++ outs s (seq fs p) (at + took l) (drop (took l) (drop at xs))
         ≡ (s.make f at (drop at xs) ++ makes s.look s.make fs (at + took l) (drop (took l) (drop at xs))) ++ outs s p a (drop a xs)
-    go (Fine t k) e ih =
+    go (Ok span) e ih =
         let x = s.make f at (drop at xs) in
-        rw (drop-drop t at xs)
-        (ap (λ l. x ++ l) (ih t k (ap (λ l. along s.look fs l (at + t) (made + k)) (sym (drop-drop t at xs)) ∙ e))
-        ∙ sym (append_assoc x (makes s.look s.make fs (at + t) (drop (at + t) xs)) (outs s p a (drop a xs))))
-    go (Bad w j) e ih = impossible cc
+        rw (drop-drop span.took at xs)
+        (ap (λ l. x ++ l) (ih span.took span.made (ap (λ l. along s.look fs l (at + span.took) (made + span.made)) (sym (drop-drop span.took at xs)) ∙ e))
+        ∙ sym (append_assoc x (makes s.look s.make fs (at + span.took) (drop (at + span.took) xs)) (outs s p a (drop a xs))))
+    go (Err fault) e ih = impossible cc
 
 pub makes-append : (L : Field → List ℕ → Leaf) (B : Field → ℕ → List ℕ → List ℕ) (fs gs : List Field) (xs : List ℕ) (at made a m : ℕ)
     → along L fs (drop at xs) at made ≡ Fine a m
@@ -68,8 +70,8 @@ makes-append L B fs gs xs at made a m e =
 
 -- larger bounds hold too
 pub under_more : (l : Leaf) (a b c d : ℕ) → Under l a b → a ≤ c → b ≤ d → Under l c d
-under_more (Fine at made) a b c d u h k = (omega arith, omega arith)
-under_more (Bad w j) a b c d u h k = tt
+under_more (Ok span) a b c d u h k = (omega arith, omega arith)
+under_more (Err fault) a b c d u h k = tt
 
 -- the fields of a plan, and then the rest of it
 pub walk-seq : (s : Side) (fs : List Field) (p : Plan) (xs : List ℕ) (at made : ℕ)
@@ -83,8 +85,8 @@ walk-seq s (f ∷ fs) p xs at made = go (s.look f (drop at xs)) (λ t m. walk-se
         ≡ after (along s.look fs (drop (at + t) xs) (at + t) (made + m)) (λ a m. walk s p (drop a xs) a m))
         → next l (λ t m. walk s (seq fs p) (drop t (drop at xs)) (at + t) (made + m)) at
         ≡ after (next l (λ t m. along s.look fs (drop t (drop at xs)) (at + t) (made + m)) at) (λ a m. walk s p (drop a xs) a m)
-    go (Fine t m) ih = rw (drop-drop t at xs) (ih t m)
-    go (Bad w j) ih = refl
+    go (Ok span) ih = rw (drop-drop span.took at xs) (ih span.took span.made)
+    go (Err fault) ih = refl
 
 pub walk_end : (s : Side) (fs : List Field) (xs : List ℕ) (at made : ℕ)
     → walk s (seq fs end) (drop at xs) at made ≡ along s.look fs (drop at xs) at made
@@ -92,5 +94,5 @@ unfolding walk
 walk_end s fs xs at made = walk-seq s fs end xs at made ∙ same (along s.look fs (drop at xs) at made)
   where
     same : (l : Leaf) → after l (λ a m. Fine a m) ≡ l
-    same (Fine a m) = refl
-    same (Bad w j) = refl
+    same (Ok span) = refl
+    same (Err fault) = refl

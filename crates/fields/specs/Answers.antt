@@ -1,11 +1,13 @@
 -- What a call answers and leaves: document 01's number and value of each answer, and the buffer or row.
+use Rattle.std.specs.Prelude.{Ok}
+use Rattle.std.specs.Prelude.{Err}
 use Rattle.std.specs.Prelude.{List, ℕ, ◌+◌, ◌*◌, ◌/◌, ◌%◌}
 use Rattle.fields.specs.declared.Offset.{Offset}
 use Rattle.fields.specs.declared.Refusal.{Refusal}
 use Rattle.fields.specs.declared.Refusal.TheVariants as refusal
-use Rattle.fields.specs.declared.Answer.{Answer}
-use Rattle.fields.specs.declared.Answer.TheVariants.{Size, Refused}
-use Rattle.fields.specs.declared.Read.{Read}
+use Rattle.fields.specs.Answer.{Answer}
+use Rattle.fields.specs.Answer.{Refused}
+use Rattle.fields.specs.Read.{Read}
 
 -- document 01's number and value of an answer
 unfoldable pub number_of_refusal : Refusal → ℕ
@@ -53,16 +55,16 @@ byte_of_refusal refusal.Sheet = 0
 byte_of_refusal refusal.Frame = 0
 
 unfoldable pub number_of : Answer → ℕ
-number_of (Size n) = 0
-number_of (Refused w n) = number_of_refusal w
+number_of (Ok n) = 0
+number_of (Err fault) = number_of_refusal fault.why
 
 unfoldable pub value_of : Answer → ℕ
-value_of (Size n) = n
-value_of (Refused w n) = n
+value_of (Ok n) = n
+value_of (Err fault) = fault.value
 
 unfoldable pub byte_of : Answer → ℕ
-byte_of (Size n) = 0
-byte_of (Refused w n) = byte_of_refusal w
+byte_of (Ok n) = 0
+byte_of (Err fault) = byte_of_refusal fault.why
 
 -- what a call leaves: its answer, and the buffer
 pub record Left : Type 0 where

@@ -1,11 +1,13 @@
 -- The grades of forms: where the byte that marks a form stands, the bytes, and the grade. All else is of grade 1.
+use Rattle.std.specs.Prelude.{None}
+use Rattle.std.specs.Prelude.{Some}
+use Rattle.fields.specs.declared.Shape.{Shape}
+use Rattle.std.specs.Prelude.{Option}
 use Rattle.std.specs.Prelude.{ℕ, cond, List, [], ◌∷◌, ltb}
 use Rattle.fields.specs.declared.Site.{Site}
 use Rattle.fields.specs.declared.Site.TheVariants as site
 use Rattle.fields.specs.declared.Field.{Field}
 use Rattle.fields.specs.declared.Field.TheVariants as field
-use Rattle.fields.specs.declared.Found.{Found}
-use Rattle.fields.specs.declared.Found.TheVariants.{Is, Not}
 
 -- the bytes from `first` to `last` mark forms of a grade
 pub record Marks : Type 0 where
@@ -58,10 +60,10 @@ fixed_byte field.Argument = 0
 fixed_byte field.CoreSortIndex = 0
 fixed_byte field.SortIndex = 0
 
-abbrev pub lead_byte : Found → ℕ
-lead_byte (Is s) = fixed_byte s.lead
-lead_byte Not = 0
+abbrev pub lead_byte : Option Shape → ℕ
+lead_byte (Some s) = fixed_byte s.lead
+lead_byte None = 0
 
 -- the grade of a shape's lead
-abbrev pub lead_grade : Site → Found → ℕ
+abbrev pub lead_grade : Site → Option Shape → ℕ
 lead_grade s found = grade_of s (lead_byte found)

@@ -1,6 +1,10 @@
+pub mod Answer
 pub mod Answers
+pub mod Flaw
 pub mod Grades
+pub mod Leaf
 pub mod Limits
+pub mod Read
 pub mod Shape
 pub mod Table
 pub mod View

@@ -1,10 +1,11 @@
 -- A table of kinds: a line has the kind, its shape, and its production in the binary document over the words after the kind.
+use Rattle.std.specs.Prelude.{None}
+use Rattle.std.specs.Prelude.{Some}
+use Rattle.std.specs.Prelude.{Option}
 use Rattle.std.specs.Prelude.{true, false, cond, List, [], ◌∷◌, ◌++◌, ℕ, zero, suc, eqb, drop}
 use Rattle.numbers.specs.Leb.{unsigned}
 use Rattle.fields.specs.declared.Field.{Field}
 use Rattle.fields.specs.declared.Field.TheVariants as field
-use Rattle.fields.specs.declared.Found.{Found}
-use Rattle.fields.specs.declared.Found.TheVariants.{Is, Not}
 use Rattle.fields.specs.declared.Shape.{Shape}
 use Rattle.fields.specs.Words.{word}
 
@@ -27,9 +28,9 @@ many_of l z a c d e =
     record { lead = l; zero = z; first = a; second = field.Nothing; counted = true; one = c; two = d; last = e }
 
 -- the shape and the production of a kind
-unfoldable pub shape_in : List Line → ℕ → Found
-shape_in [] k = Not
-shape_in (l ∷ ls) k = cond (eqb k l.kind) (Is l.shape) (shape_in ls k)
+unfoldable pub shape_in : List Line → ℕ → Option Shape
+shape_in [] k = None
+shape_in (l ∷ ls) k = cond (eqb k l.kind) (Some l.shape) (shape_in ls k)
 
 unfoldable pub production_in : List Line → ℕ → List ℕ → List ℕ → List ℕ
 production_in [] k pool ws = []

@@ -1,9 +1,10 @@
 -- A plan is a tree: a field, and the plan that follows what the field says. A walk over it goes from words to bytes or from bytes to
 -- words: `look` says what stands at a place, `tell` what it says, and `make` what is made of it.
+use Rattle.std.specs.Prelude.{Err, Ok}
 use Rattle.std.specs.Prelude.{List, [], ◌++◌, ℕ, ◌+◌, drop}
 use Rattle.fields.specs.declared.Field.{Field}
-use Rattle.fields.specs.declared.Leaf.{Leaf}
-use Rattle.fields.specs.declared.Leaf.TheVariants.{Fine, Bad}
+use Rattle.fields.specs.Leaf.{Leaf}
+use Rattle.fields.specs.Leaf.{Fine, Bad}
 
 pub data Plan : Type 0 where
   end : Plan
@@ -16,12 +17,12 @@ pub record Side : Type 0 where
 
 -- what follows a field that stands at `at`
 abbrev pub next : Leaf → (ℕ → ℕ → Leaf) → ℕ → Leaf
-next (Fine t m) k at = k t m
-next (Bad w j) k at = Bad w (at + j)
+next (Ok span) k at = k span.took span.made
+next (Err fault) k at = Bad fault.why (at + fault.value)
 
 abbrev pub took : Leaf → ℕ
-took (Fine t m) = t
-took (Bad w j) = 0
+took (Ok span) = span.took
+took (Err fault) = 0
 
 -- the fields from `at` on, with `made` elements made so far: where they end and how much is made, or the first fault
 unfoldable pub walk : Side → Plan → List ℕ → ℕ → ℕ → Leaf

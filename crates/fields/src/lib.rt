@@ -76,14 +76,6 @@ pub struct Shape {
     pub last: Field,
 }
 
-// The shape of a kind.
-#[derive(Clone, Copy)]
-pub enum Found {
-    Is(Shape),
-    // There is no such kind.
-    Not,
-}
-
 // The offset of a byte in a name, in two halves: a refusal with it has room beside its place in two machine words.
 #[derive(Clone, Copy)]
 pub struct Offset {
@@ -143,36 +135,29 @@ pub enum Refusal {
     Frame,
 }
 
-// Whether the words of a field are right.
+// What is wrong, and the number that document 01 returns with it: a place, a size or a row.
 #[derive(Clone, Copy)]
-pub enum Flaw {
-    // All are.
-    Right,
-    // The first that is not, and why.
-    Wrong(Refusal, usize),
+pub struct Fault {
+    pub why: Refusal,
+    pub value: usize,
 }
 
-// What stands at a place: so much is taken, and so much is made of it; or what is wrong, and where.
+// What stands at a place: so much is taken, and so much is made of it.
 #[derive(Clone, Copy)]
-pub enum Leaf {
-    Fine(usize, usize),
-    Bad(Refusal, usize),
+pub struct Span {
+    pub took: usize,
+    pub made: usize,
 }
 
-// What a reading call answers.
+// An item that was read: so many words of the row, and so many bytes taken.
 #[derive(Clone, Copy)]
-pub enum Read {
-    // So many words of the row, and so many bytes taken.
-    Item(usize, usize),
-    // The row is as it was; the number is what document 01 returns with the refusal.
-    Refused(Refusal, usize),
+pub struct Extent {
+    pub words: usize,
+    pub took: usize,
 }
 
-// What a writing call answers.
-#[derive(Clone, Copy)]
-pub enum Answer {
-    // So many bytes were added.
-    Size(usize),
-    // Nothing was changed; the number is what document 01 returns with the refusal.
-    Refused(Refusal, usize),
-}
+// What a reading call answers. After a fault the row is as it was.
+pub type Read = Result<Extent, Fault>;
+
+// What a writing call answers: so many bytes were added. After a fault nothing was changed.
+pub type Answer = Result<usize, Fault>;

@@ -2,13 +2,13 @@
 ghost use Rattle.std.specs.Prelude.{◌≡◌};
 ghost use Rattle.fields.specs.Table.{two_of, many_of};
 
-use crate::{Field, Found, Shape};
+use crate::{Field, Shape};
 
 // The shape of a lead, a byte and two fields.
-pub fn two_of(lead: Field, zero: Field, first: Field, second: Field) -> Found
-    ensures { result ≡ Found.Is (two_of lead zero first second) }
+pub fn two_of(lead: Field, zero: Field, first: Field, second: Field) -> Shape
+    ensures { result ≡ two_of lead zero first second }
 {
-    Found::Is(Shape {
+    Shape {
         lead: lead,
         zero: zero,
         first: first,
@@ -17,14 +17,14 @@ pub fn two_of(lead: Field, zero: Field, first: Field, second: Field) -> Found
         one: Field::Nothing,
         two: Field::Nothing,
         last: Field::Nothing,
-    })
+    }
 }
 
 // The shape of a lead, a byte and a field, a count and as many groups of two fields, and a last field.
-pub fn many_of(lead: Field, zero: Field, first: Field, one: Field, two: Field, last: Field) -> Found
-    ensures { result ≡ Found.Is (many_of lead zero first one two last) }
+pub fn many_of(lead: Field, zero: Field, first: Field, one: Field, two: Field, last: Field) -> Shape
+    ensures { result ≡ many_of lead zero first one two last }
 {
-    Found::Is(Shape {
+    Shape {
         lead: lead,
         zero: zero,
         first: first,
@@ -33,5 +33,5 @@ pub fn many_of(lead: Field, zero: Field, first: Field, one: Field, two: Field, l
         one: one,
         two: two,
         last: last,
-    })
+    }
 }

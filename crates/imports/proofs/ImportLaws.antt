@@ -1,4 +1,5 @@
 -- An import row: what is seen of its two fields makes its size, what a row that has a size holds, and what is answered of it.
+use Rattle.std.specs.Prelude.{Ok, Some, None}
 use Prim.Native.Nat.{ℕ, ◌+◌, ◌^◌, ◌≤◌, ◌<◌}
 use native.Mathlib.Omega.{arith}
 use mathlib.Core.Path.{◌≡◌, refl, sym, ap, ◌∙◌, subst}
@@ -10,10 +11,10 @@ use Rattle.numbers.specs.Bytes as stored
 use Rattle.numbers.specs.Bytes.{store, part_of}
 use Rattle.numbers.specs.Leb.{unsigned}
 use Rattle.numbers.specs.Numbers.{value_of}
-use Rattle.numbers.specs.declared.bytes.Stored.{Stored}
-use Rattle.fields.specs.declared.Answer.TheVariants.{Size, Refused}
+use Rattle.numbers.specs.Stored.{Stored}
+use Rattle.fields.specs.Answer.{Refused}
 use Rattle.fields.specs.declared.Field.TheVariants as field
-use Rattle.fields.specs.declared.Flaw.TheVariants.{Right}
+use Rattle.fields.specs.Flaw.{Right}
 use Rattle.fields.specs.declared.Refusal.{Refusal}
 use Rattle.fields.specs.declared.Refusal.TheVariants.{Room}
 use Rattle.fields.specs.Words.{word, wide}
@@ -43,14 +44,15 @@ module _ (row pool : List ℕ) where
   described = externdesc (word row 12) (word row 13) (word row 14)
 
   pub import_known : length row ≡ 15 → length pool ≤ 65536 → {p q : ℕ}
-      → p ≡ right_size pool field.ExternName (drop 1 row) → 0 < p
+      → Some p ≡ right_size pool field.ExternName (drop 1 row)
       → Known pool field.Reference (word row 12 ∷ word row 13 ∷ word row 14 ∷ []) q → q ≤ 7
-      → (p + q < 2 ^ 32) × (measured_row (shape_of 17) row pool ≡ Size (p + q))
+      → (p + q < 2 ^ 32) × (measured_row (shape_of 17) row pool ≡ Ok (p + q))
   unfolding shape_in wide
-  import_known width small {p} {q} e h s most =
-      let few : p + q < 2 ^ 32 = omega (arith, extern_bound pool (drop 1 row) small) in (
+  import_known width small {p} {q} e s most =
+      let bound = rw (sym e) at (extern_bound pool (drop 1 row) small) in
+      let few : p + q < 2 ^ 32 = omega arith in (
         few,
-        bare_known field.ExternName field.Reference row pool small (omega arith) width (known_of e h) (reference_at pool row 12 s) refl,
+        bare_known field.ExternName field.Reference row pool small (omega arith) width (known_of e) (reference_at pool row 12 s) refl,
       )
 
   described_at : bytes pool field.Reference (drop 12 row) ≡ described
@@ -64,7 +66,7 @@ module _ (row pool : List ℕ) where
     pub size : n ≡ length extern + length described
     pub made : row_bytes (shape_of 17) pool row ≡ extern ++ described
 
-  pub import_held : {n : ℕ} → measured_row (shape_of 17) row pool ≡ Size n → ImportHeld n
+  pub import_held : {n : ℕ} → measured_row (shape_of 17) row pool ≡ Ok n → ImportHeld n
   unfolding shape_in wide bytes flaw
   import_held e =
       let h = bare_held field.ExternName field.Reference row pool e in
@@ -95,8 +97,9 @@ module _ (row pool : List ℕ) where
         get_or-drop 1 row 10 0,
       )
 
-  pub bare_size : option_words (drop 1 row) ≡ 0 → {one : ℕ} → one ≡ right_size pool field.Name (word row 1 ∷ word row 2 ∷ [])
-      → (0 < one → 1 + one ≡ right_size pool field.ExternName (drop 1 row)) × (one ≤ 0 → 0 ≡ right_size pool field.ExternName (drop 1 row))
+  pub bare_size : option_words (drop 1 row) ≡ 0
+      → ((one : ℕ) → Some one ≡ right_size pool field.Name (word row 1 ∷ word row 2 ∷ []) → Some (1 + one) ≡ right_size pool field.ExternName (drop 1 row))
+      × (None ≡ right_size pool field.Name (word row 1 ∷ word row 2 ∷ []) → None ≡ right_size pool field.ExternName (drop 1 row))
   bare_size e = plain_size pool (drop 1 row) e (sym (get_or-drop 1 row 0 0)) (sym (get_or-drop 1 row 1 0))
 
   pub bare_bytes : word row 3 + word row 6 + word row 9 ≡ 0 → extern ≡ 0x00 ∷ name pool (word row 1) (word row 2)
@@ -119,7 +122,7 @@ module _ (row pool : List ℕ) where
       rw (bare_bytes e)
       (byte-named old to 0x00 pool (word row 1) (word row 2) (name_ends right) (omega (arith, ap length (bare_bytes e), room)) d v)
 
-  pub import_put : {to size mid : ℕ} {old new last : List ℕ} → measured_row (shape_of 17) row pool ≡ Size size → Wrote old to extern mid new
+  pub import_put : {to size mid : ℕ} {old new last : List ℕ} → measured_row (shape_of 17) row pool ≡ Ok size → Wrote old to extern mid new
       → last ≡ sets new mid described → last ≡ sets old to (row_bytes (shape_of 17) pool row)
   import_put {to} {size} {mid} {old} {new} {last} e x y =
       let second : Wrote new mid described (mid + length described) last = record { place = refl; content = y } in
@@ -127,14 +130,14 @@ module _ (row pool : List ℕ) where
 
   -- ---- answers
 
-  pub measured_as : {k r : ℕ} → k ≡ word row 0 → k ≡ 17 → measured_row (shape_of 17) row pool ≡ Size r → Size r ≡ measured_import row pool
+  pub measured_as : {k r : ℕ} → k ≡ word row 0 → k ≡ 17 → measured_row (shape_of 17) row pool ≡ Ok r → Ok r ≡ measured_import row pool
   unfolding measured_import
-  measured_as {k} {r} e s h = sym (subst (λ (n : ℕ). measured_row (shape_of n) row pool ≡ Size r) (sym s ∙ e) h)
+  measured_as {k} {r} e s h = sym (subst (λ (n : ℕ). measured_row (shape_of n) row pool ≡ Ok r) (sym s ∙ e) h)
 
-  module _ {n : ℕ} (e : measured_import row pool ≡ Size n) where
-    as_import : measured_row (shape_of 17) row pool ≡ Size n
+  module _ {n : ℕ} (e : measured_import row pool ≡ Ok n) where
+    as_import : measured_row (shape_of 17) row pool ≡ Ok n
     unfolding measured_import
-    as_import = subst (λ (k : ℕ). measured_row (shape_of k) row pool ≡ Size n) (import-some row pool n e).0 e
+    as_import = subst (λ (k : ℕ). measured_row (shape_of k) row pool ≡ Ok n) (import-some row pool n e).0 e
 
     some : 0 < n
     some = omega (arith, (import_held as_import).size, reference_some (word row 12) (word row 13) (word row 14))
@@ -144,7 +147,7 @@ module _ (row pool : List ℕ) where
       import_fits t = record { size = n; measured = as_import; ends = (within-fits n at (length out) t).1 }
 
       pub import_written : within n at (length out) ≡ true → {new : List ℕ} → new ≡ sets out at (row_bytes (shape_of 17) pool row)
-          → left (Size n) new ≡ write_import row pool out at
+          → left (Ok n) new ≡ write_import row pool out at
       unfolding measured_import write_import
       import_written t {new} p =
           written_answer (shape_of (word row 0)) row pool e out at (within-fits n at (length out) t).1

@@ -1,4 +1,5 @@
 -- What straight code sees of a reference makes its size, and its bytes by its sort.
+use Rattle.std.specs.Prelude.{Some}
 use Prim.Native.Nat.{ℕ, ◌+◌, ◌≤◌, ◌<◌}
 use native.Mathlib.Omega.{arith}
 use mathlib.Core.Path.{◌≡◌, refl, sym, ap, ◌∙◌, subst}
@@ -10,7 +11,7 @@ use lib.ListN.{length, drop}
 use lib.Seq.{get_or-drop}
 use Rattle.numbers.specs.Leb.{unsigned}
 use Rattle.fields.specs.declared.Field.TheVariants as field
-use Rattle.fields.specs.declared.Flaw.TheVariants.{Right, Wrong}
+use Rattle.fields.specs.Flaw.{Right, Wrong}
 use Rattle.fields.specs.declared.Refusal.TheVariants.{Tag}
 use Rattle.fields.specs.Words.{word}
 use Rattle.writing.specs.Binary.{valtype, typebound, externdesc, bytes}
@@ -82,11 +83,11 @@ module _ (sort x y : ℕ) where
       go false false false p q r s = omega arith
 
   -- seen
-  pub value_reference : sort ≡ 2 → {v : ℕ} → v ≡ right_size [] field.Value (x ∷ y ∷ []) → 0 < v
+  pub value_reference : sort ≡ 2 → {v : ℕ} → Some v ≡ right_size [] field.Value (x ∷ y ∷ [])
       → (pool : List ℕ) → Known pool field.Reference (sort ∷ x ∷ y ∷ []) (1 + v)
   unfolding flaw bytes
-  value_reference e {v} ev h pool =
-      let s : Known [] field.Value (x ∷ y ∷ []) v = known_of ev h in
+  value_reference e {v} ev pool =
+      let s : Known [] field.Value (x ∷ y ∷ []) v = known_of ev in
       reference_known (value_right e s.right) (omega (arith, ap length (value_bytes e), s.size)) pool
 
   pub bound_reference : sort ≡ 3 → x ≡ 0 → {n : ℕ} → n ≡ length (unsigned y)

@@ -1,4 +1,7 @@
 -- An import row that is taken has a byte.
+use Rattle.std.specs.Prelude.{Ok}
+use Rattle.std.specs.Prelude.{None}
+use Rattle.std.specs.Prelude.{Some}
 use Prim.Native.Nat.{ℕ, ◌≤◌}
 use native.Mathlib.Omega.{arith}
 use mathlib.Core.Path.{◌≡◌, refl, sym, subst}
@@ -7,9 +10,7 @@ use mathlib.Core.List.{List, ◌∷◌, ◌++◌}
 use borrow.Author.Tests.{eqb-true}
 use lib.Dec.{eqb}
 use lib.ListN.{length, drop, length-append}
-use Rattle.fields.specs.declared.Answer.TheVariants.{Size}
 use Rattle.fields.specs.declared.Field.TheVariants as field
-use Rattle.fields.specs.declared.Found.TheVariants.{Is, Not}
 use Rattle.fields.specs.declared.Shape.{Shape}
 use Rattle.fields.specs.Words.{word}
 use Rattle.writing.specs.Binary.{name, slots, slots_at, externname, externdesc}
@@ -26,11 +27,11 @@ abbrev pub import_bytes : List ℕ → List ℕ → List ℕ
 import_bytes pool row = row_bytes (shape_of (word row 0)) pool row
 
 -- there is one kind
-import_kind : (k : ℕ) (s : Shape) → shape_of k ≡ Is s → k ≡ 17
+import_kind : (k : ℕ) (s : Shape) → shape_of k ≡ Some s → k ≡ 17
 unfolding shape_in
 import_kind k s f = go (eqb k 17) refl f
   where
-    go : (b : Bool) → eqb k 17 ≡ b → cond b (Is (two_of field.Nothing field.Nothing field.ExternName field.Reference)) Not ≡ Is s → k ≡ 17
+    go : (b : Bool) → eqb k 17 ≡ b → cond b (Some (two_of field.Nothing field.Nothing field.ExternName field.Reference)) None ≡ Some s → k ≡ 17
     go true t f = eqb-true k 17 t
     go false t f = impossible cc
 
@@ -44,7 +45,7 @@ lead_first pool ws = go (eqb (slots ws) 0)
     go false = omega arith
 
 -- a row that is taken has a byte, and is an import
-pub import-some : (row pool : List ℕ) (m : ℕ) → measured_import row pool ≡ Size m → (word row 0 ≡ 17) × (1 ≤ length (import_bytes pool row))
+pub import-some : (row pool : List ℕ) (m : ℕ) → measured_import row pool ≡ Ok m → (word row 0 ≡ 17) × (1 ≤ length (import_bytes pool row))
 unfolding measured_import production_in
 import-some row pool m e =
     let a = accepted (shape_of (word row 0)) row pool m e in

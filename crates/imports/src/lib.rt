@@ -7,20 +7,20 @@ ghost use Rattle.std.specs.Prelude.{◌<◌, ◌≡◌};
 ghost use Rattle.fields.specs.Answers.{left};
 ghost use Rattle.imports.specs.Write.{shape_of, measured_import, write_import};
 
-use fields::{Answer, Field, Found, Refusal};
+use fields::{Answer, Fault, Field, Refusal, Shape};
 
 // The shape of a kind: an extern name and a reference.
-pub fn shape_of(kind: u32) -> Found
+pub fn shape_of(kind: u32) -> Option<Shape>
     ensures { result ≡ shape_of kind }
 {
     match kind {
-        17 => fields::two_of(
+        17 => Some(fields::two_of(
             Field::Nothing,
             Field::Nothing,
             Field::ExternName,
             Field::Reference,
-        ),
-        _ => Found::Not,
+        )),
+        _ => None,
     }
 }
 
@@ -30,9 +30,8 @@ pub fn measure(row: &[u32], pool: &[u8]) -> Answer
 {
     let kind = fields::kind_of(row);
     if kind == 17 {
-        let size = straight::import_size(row, pool);
-        if 0 < size {
-            return Answer::Size(size);
+        if let Some(size) = straight::import_size(row, pool) {
+            return Ok(size);
         }
     }
     writing::measure_row(shape_of(kind), row, pool)
@@ -42,14 +41,13 @@ pub fn measure(row: &[u32], pool: &[u8]) -> Answer
 pub fn write(row: &[u32], pool: &[u8], out: &mut [u8], at: usize) -> Answer
     ensures { left result out.new ≡ write_import row.now pool.now out.old at }
 {
-    match measure(row, pool) {
-        Answer::Size(size) => {
-            if writing::fits(size, at, out.len()) {
-                straight::put_import(row, pool, out, at);
-                return Answer::Size(size);
-            }
-            Answer::Refused(Refusal::Room, size)
-        }
-        Answer::Refused(why, value) => Answer::Refused(why, value),
+    let size = measure(row, pool)?;
+    if writing::fits(size, at, out.len()) {
+        straight::put_import(row, pool, out, at);
+        return Ok(size);
     }
+    Err(Fault {
+        why: Refusal::Room,
+        value: size,
+    })
 }

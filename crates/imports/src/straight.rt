@@ -1,9 +1,8 @@
-// An import in straight code: how many bytes a row makes, 0 where not all of it is seen to be right, and its bytes.
-ghost use Rattle.std.specs.Prelude.{ℕ, ◌<◌, ◌≤◌, ◌+◌, ◌^◌, true, List, ◌∷◌, [], ◌≡◌, length, drop};
+// An import in straight code: how many bytes a row makes, if all of it is seen to be right, and its bytes.
+ghost use Rattle.std.specs.Prelude.{IfSome, Ok, ℕ, ◌<◌, ◌≤◌, ◌+◌, ◌^◌, true, List, ◌∷◌, [], ◌≡◌, length, drop};
 ghost use Rattle.std.proofs.lemmas.List.Edits.{sets};
-ghost use Rattle.fields.specs.declared.Answer.TheVariants.{Size};
 ghost use Rattle.fields.specs.Limits.{pool_bytes};
-ghost use Rattle.fields.specs.declared.Flaw.TheVariants.{Right};
+ghost use Rattle.fields.specs.Flaw.{Right};
 ghost use Rattle.writing.specs.Binary.{externname, externdesc};
 ghost use Rattle.writing.specs.Judge.{flaw};
 ghost use Rattle.writing.specs.Row.{measured_row, row_bytes};
@@ -17,37 +16,32 @@ use fields::{Field, POOL_BYTES};
 use numbers::{stored_size, unsigned_size};
 
 // The reference: what is imported.
-fn reference_size(sort: u32, x: u32, y: u32) -> usize
-    ensures known { 0 < result → (pool : List ℕ) → Known pool Field.Reference (sort ∷ x ∷ y ∷ []) result }
-    ensures upper_bound { result ≤ 7 }
+fn reference_size(sort: u32, x: u32, y: u32) -> Option<usize>
+    ensures known { IfSome result (λ r. (pool : List ℕ) → Known pool Field.Reference (sort ∷ x ∷ y ∷ []) r) }
+    ensures upper_bound { IfSome result (λ r. r ≤ 7) }
 {
     if sort == 2 {
-        let value = writing::value_size(x, y);
-        if 0 < value {
-            return 1 + value;
-        }
-        return 0;
+        let value = writing::value_size(x, y)?;
+        return Some(1 + value);
     }
     if sort == 3 {
         if x == 0 {
-            return 2 + unsigned_size(y);
+            return Some(2 + unsigned_size(y));
         }
-        if x == 1 {
-            if y == 0 {
-                return 2;
-            }
+        if x == 1 && y == 0 {
+            return Some(2);
         }
-        return 0;
+        return None;
     }
     if y == 0 {
         if sort == 0 {
-            return 2 + unsigned_size(x);
+            return Some(2 + unsigned_size(x));
         }
         if sort < 6 {
-            return 1 + unsigned_size(x);
+            return Some(1 + unsigned_size(x));
         }
     }
-    0
+    None
 }
 
 fn put_reference(sort: u32, x: u32, y: u32, out: &mut [u8], to: usize)
@@ -57,23 +51,23 @@ fn put_reference(sort: u32, x: u32, y: u32, out: &mut [u8], to: usize)
     out[to] = sort as u8;
     if sort == 0 {
         out[to + 1] = 0x11;
-        numbers::put_unsigned(x, to + 2, out);
+        let _ = numbers::put_unsigned(x, to + 2, out);
         return;
     }
     if sort == 2 {
-        writing::put_value(x, y, to + 1, out);
+        let _ = writing::put_value(x, y, to + 1, out);
         return;
     }
     if sort == 3 {
         if x == 0 {
             out[to + 1] = 0x00;
-            numbers::put_unsigned(y, to + 2, out);
+            let _ = numbers::put_unsigned(y, to + 2, out);
             return;
         }
         out[to + 1] = 0x01;
         return;
     }
-    numbers::put_unsigned(x, to + 1, out);
+    let _ = numbers::put_unsigned(x, to + 1, out);
 }
 
 // Three words together: 0 where each is.
@@ -95,16 +89,13 @@ fn is_bare(row: &[u32]) -> bool
 }
 
 // The extern name: without options the name and its lead, which needs no call that knows of options.
-fn extern_size(row: &[u32], pool: &[u8]) -> usize
+fn extern_size(row: &[u32], pool: &[u8]) -> Option<usize>
     requires { (length row.now ≡ 15) × (length pool.now ≤ pool_bytes) }
     ensures { result ≡ right_size pool.now Field.ExternName (drop 1 row.now) }
 {
     if is_bare(row) {
-        let name = writing::name_size(pool, row[1], row[2]);
-        if 0 < name {
-            return 1 + name;
-        }
-        return 0;
+        let name = writing::name_size(pool, row[1], row[2])?;
+        return Some(1 + name);
     }
     writing::extern_size(&pool[0..], &row[1..])
 }
@@ -123,21 +114,15 @@ fn put_extern(row: &[u32], pool: &[u8], out: &mut [u8], to: usize) -> usize
 }
 
 // import: an extern name and a reference.
-pub fn import_size(row: &[u32], pool: &[u8]) -> usize
-    ensures { 0 < result → measured_row (shape_of 17) row.now pool.now ≡ Size result }
+pub fn import_size(row: &[u32], pool: &[u8]) -> Option<usize>
+    ensures { IfSome result (λ r. measured_row (shape_of 17) row.now pool.now ≡ Ok r) }
 {
-    if row.len() == 15 {
-        if pool.len() <= POOL_BYTES {
-            let reference = reference_size(row[12], row[13], row[14]);
-            if 0 < reference {
-                let name = extern_size(row, pool);
-                if 0 < name {
-                    return name + reference;
-                }
-            }
-        }
+    if row.len() != 15 || POOL_BYTES < pool.len() {
+        return None;
     }
-    0
+    let reference = reference_size(row[12], row[13], row[14])?;
+    let name = extern_size(row, pool)?;
+    Some(name + reference)
 }
 
 // The bytes of an import that is right and has room.

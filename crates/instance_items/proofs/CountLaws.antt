@@ -1,4 +1,5 @@
 -- Instances read in straight code: the count, its groups and what stands before them, from the steps and shapes of `reading`.
+use Rattle.std.specs.Prelude.{Err, Ok, Option, Some, None}
 use Prim.Native.Nat.{ℕ, zero, suc, ◌+◌, ◌*◌, ◌≤◌, ◌<◌, ◌^◌}
 use native.Mathlib.Omega.{arith}
 use native.Mathlib.Nat.{add-zero, mul-le-mul}
@@ -10,17 +11,15 @@ use lib.ListN.{length, take, drop, set, length-drop}
 use lib.Seq.{sets, drop-drop}
 use borrow.Author.Tests.{lt-leb, le-ltb, eq-eqb, ne_eqb, leb-true, ltb-false}
 use Rattle.numbers.specs.declared.leb.Number.{Number}
-use Rattle.numbers.specs.declared.leb.Taken.{Taken}
-use Rattle.numbers.specs.declared.leb.Taken.TheVariants as taken
-use Rattle.numbers.specs.Integers.{u32}
+use Rattle.numbers.specs.Taken.{Taken}
+use Rattle.numbers.specs.Taken as taken
 use Rattle.numbers.specs.Leb.{take_unsigned}
 use Rattle.numbers.specs.Seen.{seen}
 use Rattle.numbers.proofs.SeenLaws.{seen_none}
 use Rattle.fields.specs.declared.Field.{Field}
 use Rattle.fields.specs.declared.Field.TheVariants as field
-use Rattle.fields.specs.declared.Found.TheVariants.{Is}
-use Rattle.fields.specs.declared.Leaf.{Leaf}
-use Rattle.fields.specs.declared.Leaf.TheVariants.{Fine, Bad}
+use Rattle.fields.specs.Leaf.{Leaf}
+use Rattle.fields.specs.Leaf.{Fine, Bad}
 use Rattle.fields.specs.declared.Refusal.{Refusal}
 use Rattle.fields.specs.declared.Refusal.TheVariants as refusal
 use Rattle.fields.specs.declared.Shape.{Shape}
@@ -35,7 +34,7 @@ use Rattle.reading.specs.Fill.{index, fill}
 use Rattle.reading.specs.Read.{scanned, filled}
 use Rattle.reading.specs.Scan.{byte, scan, scan_index}
 use Rattle.reading.specs.Seen.{roomy}
-use Rattle.reading.specs.declared.Tried.TheVariants as answer
+use Rattle.reading.specs.inside.Try as answer
 use Rattle.reading.specs.inside.Stages.{counted_scan, counted_fill}
 use Rattle.reading.specs.inside.Steps.{scans, fills, end_of}
 use Rattle.reading.specs.inside.Tried.{LeftTried, left_tried, tried, tried_found}
@@ -48,12 +47,12 @@ use Rattle.numbers.proofs.Impossible.{impossible}
 
 -- ---- what is not right, and what has room
 
-tried-wrong : (l : Leaf) (ws row : List ℕ) → Wrong l → left_tried answer.Not row ≡ tried l ws row
+tried-wrong : (l : Leaf) (ws row : List ℕ) → Wrong l → left_tried None row ≡ tried l ws row
 unfolding tried
-tried-wrong (Fine a m) ws row h = absurd h
-tried-wrong (Bad w j) ws row h = refl
+tried-wrong (Ok span) ws row h = absurd h
+tried-wrong (Err fault) ws row h = refl
 
-tried_cramped : (e q : ℕ) (ws row : List ℕ) → roomy q (length row) ≡ false → left_tried answer.Not row ≡ tried (Fine e q) ws row
+tried_cramped : (e q : ℕ) (ws row : List ℕ) → roomy q (length row) ≡ false → left_tried None row ≡ tried (Fine e q) ws row
 unfolding tried
 tried_cramped e q ws row h = rw h
 
@@ -62,8 +61,8 @@ unfolding tried
 tried-stored e q ws row h = rw h
 
 after-wrong : (l : Leaf) (k : ℕ → ℕ → Leaf) → Wrong l → Wrong (after l k)
-after-wrong (Fine a m) k h = absurd h
-after-wrong (Bad w j) k h = tt
+after-wrong (Ok span) k h = absurd h
+after-wrong (Err fault) k h = tt
 
 scans_nothing : (g : ℕ) (input : List ℕ) (at made : ℕ) → scans g input (field.Nothing ∷ []) at made ≡ Fine at made
 unfolding along scan
@@ -102,97 +101,95 @@ front (suc (suc (suc m))) kind index n ws row h k = absurd (omega arith)
 
 -- ---- what is counted
 
-module _ (g at : ℕ) (input : List ℕ) (count : Number) (is : count ≡ seen (take_unsigned (drop at input))) where
+module _ (g at : ℕ) (input : List ℕ) where
   -- no count
-  pub count_cut : (s : Shape) (made : ℕ) (ws row : List ℕ) → count.took ≡ 0
-      → left_tried answer.Not row ≡ tried (counted_scan 1 g s input at made) ws row
-  count_cut s made ws row z =
-      let k = counted_none 1 g s input at made (seen_none u32 (drop at input) (subst (λ (r : Number). r.took ≡ 0) is z)) in
+  pub count_cut : None ≡ seen (take_unsigned (drop at input)) → (s : Shape) (made : ℕ) (ws row : List ℕ)
+      → left_tried None row ≡ tried (counted_scan 1 g s input at made) ws row
+  count_cut none s made ws row =
+      let k = counted_none 1 g s input at made (seen_none (take_unsigned (drop at input)) (sym none)) in
       tried-wrong _ ws row (subst Wrong (sym k.2) tt)
 
-  module _ (some : 0 < count.took) where
+  module _ (count : Number) (is : Some count ≡ seen (take_unsigned (drop at input))) where
     -- the count, which has few bytes
     pub count_seen : (take_unsigned (drop at input) ≡ taken.Value count.value count.took) × (0 < count.took) × (count.took ≤ 5)
         × (count.took ≤ length (drop at input)) × (count.value < 2 ^ 32)
-    count_seen = index_seen (drop at input) count is some
+    count_seen = index_seen (drop at input) count is
 
     -- its end lies inside the input
     pub count_inside : at ≤ length input → at + count.took ≤ length input
     count_inside h = omega (arith, count_seen.3, length-drop at input)
 
     module _ (s : Shape) (made : ℕ) where
-      abbrev ends : ℕ
+      abbrev ends : Option ℕ
       ends = end_of (scans g input (repeated count.value (group s)) (at + count.took) 0)
 
-      groups_wrong : (ws row : List ℕ) → ends ≡ 0 → left_tried answer.Not row ≡ tried (counted_scan 1 g s input at made) ws row
+      groups_wrong : (ws row : List ℕ) → ends ≡ None → left_tried None row ≡ tried (counted_scan 1 g s input at made) ws row
       groups_wrong ws row e =
           let fs = repeated count.value (group s) in
           let wrong : Wrong (scans g input fs (at + count.took) (made + 1)) =
-          end_wrong g input fs (at + count.took) (made + 1) (omega arith) e in
+          end_wrong g input fs (at + count.took) (made + 1) e in
           tried-wrong (counted_scan 1 g s input at made) ws row
           (subst Wrong (sym (counted_some 1 g s input at made count.value count.took count_seen.0))
           (after-wrong (scans g input fs (at + count.took) (made + 1)) (λ b k. along (scan 1 g) (closing s) (drop b input) b k) wrong))
 
-      groups_right : 0 < ends
-          → counted_scan 1 g s input at made ≡ scans g input (closing s) ends (made + 1 + count.value * widths (group s))
-      groups_right h =
+      groups_right : (end : ℕ) → ends ≡ Some end
+          → counted_scan 1 g s input at made ≡ scans g input (closing s) end (made + 1 + count.value * widths (group s))
+      groups_right end e =
           counted_some 1 g s input at made count.value count.took count_seen.0
           ∙ ap (λ l. after l (λ b k. along (scan 1 g) (closing s) (drop b input) b k))
-          (end_fine g input (repeated count.value (group s)) (at + count.took) (made + 1) h)
-          ∙ ap (λ w. scans g input (closing s) ends (made + 1 + w)) (repeated_widths (group s) count.value)
+          (end_fine g input (repeated count.value (group s)) (at + count.took) (made + 1) end e)
+          ∙ ap (λ w. scans g input (closing s) end (made + 1 + w)) (repeated_widths (group s) count.value)
 
-      groups_filled : 0 < ends
+      groups_filled : (end : ℕ) → ends ≡ Some end
           → counted_fill 1 g s input at
-          ≡ count.value ∷ (fills g input (repeated count.value (group s)) (at + count.took) ++ fills g input (closing s) ends)
-      groups_filled h =
+          ≡ count.value ∷ (fills g input (repeated count.value (group s)) (at + count.took) ++ fills g input (closing s) end)
+      groups_filled end e =
           counted_words 1 g s input at count.value count.took count_seen.0
           ∙ ap (λ ws. count.value ∷ ws)
-          (makes-append (scan 1 g) (fill g) (repeated count.value (group s)) (closing s) input (at + count.took) 0 ends _
-          (end_fine g input (repeated count.value (group s)) (at + count.took) 0 h))
+          (makes-append (scan 1 g) (fill g) (repeated count.value (group s)) (closing s) input (at + count.took) 0 end _
+          (end_fine g input (repeated count.value (group s)) (at + count.took) 0 end e))
 
     -- behind a kind and, where base is 2, an index
-    module _ (kind index base end words : ℕ) (low : 1 ≤ base) (high : base ≤ 2)
-        (ended : end ≡ end_of (scans g input (repeated count.value (group_of kind)) (at + count.took) 0))
-        (sum : words ≡ base + 1 + count.value * widths (group_of kind)) where
+    module _ (kind index base : ℕ) where
       abbrev leaf : Leaf
       leaf = counted_scan 1 g (counted_of kind) input at base
 
       abbrev words_so_far : List ℕ
       words_so_far = take base (kind ∷ index ∷ []) ++ counted_fill 1 g (counted_of kind) input at
 
-      counted_leaf : 0 < end → leaf ≡ Fine end words
-      counted_leaf h =
-          groups_right (counted_of kind) base (subst (λ n. 0 < n) ended h)
-          ∙ scans_nothing g input _ _
-          ∙ ap (λ n. Fine n (base + 1 + count.value * widths (group_of kind))) (sym ended)
-          ∙ ap (λ n. Fine end n) (sym sum)
+      pub counted_wrong : (row : List ℕ) → None ≡ end_of (scans g input (repeated count.value (group_of kind)) (at + count.took) 0)
+          → left_tried None row ≡ tried leaf words_so_far row
+      counted_wrong row e = groups_wrong (counted_of kind) base _ row (sym e)
 
-      counted_row : 0 < end
-          → counted_fill 1 g (counted_of kind) input at
-          ≡ count.value ∷ fills g input (repeated count.value (group_of kind)) (at + count.took)
-      unfolding makes fill
-      counted_row h =
-          groups_filled (counted_of kind) base (subst (λ n. 0 < n) ended h)
-          ∙ ap (λ ws. count.value ∷ ws) (append-nil (fills g input (repeated count.value (group_of kind)) (at + count.took)))
+      module _ (end words : ℕ) (ended : Some end ≡ end_of (scans g input (repeated count.value (group_of kind)) (at + count.took) 0))
+          (sum : words ≡ base + 1 + count.value * widths (group_of kind)) where
+        counted_leaf : leaf ≡ Fine end words
+        counted_leaf =
+            groups_right (counted_of kind) base end (sym ended)
+            ∙ scans_nothing g input _ _
+            ∙ ap (λ n. Fine end n) (sym sum)
 
-      pub counted_wrong : (row : List ℕ) → end ≡ 0 → left_tried answer.Not row ≡ tried leaf words_so_far row
-      counted_wrong row z = groups_wrong (counted_of kind) base _ row (sym ended ∙ z)
+        counted_row : counted_fill 1 g (counted_of kind) input at
+            ≡ count.value ∷ fills g input (repeated count.value (group_of kind)) (at + count.took)
+        unfolding makes fill
+        counted_row =
+            groups_filled (counted_of kind) base end (sym ended)
+            ∙ ap (λ ws. count.value ∷ ws) (append-nil (fills g input (repeated count.value (group_of kind)) (at + count.took)))
 
-      pub counted_cramped : (row : List ℕ) → 0 < end → roomy words (length row) ≡ false
-          → left_tried answer.Not row ≡ tried leaf words_so_far row
-      counted_cramped row h r = tried_cramped end words _ row r ∙ ap (λ l. tried l words_so_far row) (sym (counted_leaf h))
+        pub counted_cramped : (row : List ℕ) → roomy words (length row) ≡ false → left_tried None row ≡ tried leaf words_so_far row
+        counted_cramped row r = tried_cramped end words _ row r ∙ ap (λ l. tried l words_so_far row) (sym counted_leaf)
 
-      pub counted_done : (row new : List ℕ) → 0 < end → roomy words (length row) ≡ true
-          → new ≡ sets (set (set (set row 0 kind) 1 index) base count.value) (base + 1)
-          (fills g input (repeated count.value (group_of kind)) (at + count.took))
-          → left_tried (answer.Item words end) new ≡ tried leaf words_so_far row
-      counted_done row new h r e =
-          let ws = fills g input (repeated count.value (group_of kind)) (at + count.took) in
-          let all = take base (kind ∷ index ∷ []) ++ (count.value ∷ ws) in
-          ap (λ l. left_tried (answer.Item words end) l) (e ∙ front base kind index count.value ws row low high)
-          ∙ tried-stored end words all row r
-          ∙ ap (λ l. tried l all row) (sym (counted_leaf h))
-          ∙ ap (λ l. tried leaf (take base (kind ∷ index ∷ []) ++ l) row) (sym (counted_row h))
+        pub counted_done : 1 ≤ base → base ≤ 2 → (row new : List ℕ) → roomy words (length row) ≡ true
+            → new ≡ sets (set (set (set row 0 kind) 1 index) base count.value) (base + 1)
+            (fills g input (repeated count.value (group_of kind)) (at + count.took))
+            → left_tried (answer.Item words end) new ≡ tried leaf words_so_far row
+        counted_done low high row new r e =
+            let ws = fills g input (repeated count.value (group_of kind)) (at + count.took) in
+            let all = take base (kind ∷ index ∷ []) ++ (count.value ∷ ws) in
+            ap (λ l. left_tried (answer.Item words end) l) (e ∙ front base kind index count.value ws row low high)
+            ∙ tried-stored end words all row r
+            ∙ ap (λ l. tried l all row) (sym counted_leaf)
+            ∙ ap (λ l. tried leaf (take base (kind ∷ index ∷ []) ++ l) row) (sym counted_row)
 
 -- ---- 00 and an index, and what is counted behind them
 
@@ -209,54 +206,54 @@ module _ (kind g : ℕ) (input : List ℕ) (some : 0 < length input) (first : by
     where
       go : (x : Taken) → take_unsigned (drop 1 input) ≡ x
           → (w : Refusal) × (j : ℕ) × (along (scan 1 g) (opening (instantiate_of kind)) input 0 1 ≡ Bad w j)
-      go (taken.Value n t) e = absurd (h n t e)
+      go (Ok taken2) e = absurd (h taken2.value taken2.took e)
       go taken.Cut e = (refusal.Cut, 1 + length (drop 1 input), rw (lead_is, e))
       go taken.Bad e = (refusal.Number, 1 + 0, rw (lead_is, e))
 
-  module _ (x : Number) (is : x ≡ seen (take_unsigned (drop 1 input))) where
-    pub instantiate_cut : (row : List ℕ) → x.took ≡ 0 → left_tried answer.Not row ≡ tried_found (Is (instantiate_of kind)) kind 1 g input row
-    instantiate_cut row z =
-        let k = opens_bad (seen_none u32 (drop 1 input) (subst (λ (r : Number). r.took ≡ 0) is z)) in
-        tried-wrong (scanned 1 g (instantiate_of kind) input) (filled kind 1 g (instantiate_of kind) input) row
-        (subst Wrong (walk_bad (tells 1 g input) (instantiate_of kind) 0 1 (Bad k.0 k.1) (sym k.2) k.0 k.1 refl) tt)
+  pub instantiate_cut : (row : List ℕ) → None ≡ seen (take_unsigned (drop 1 input))
+      → left_tried None row ≡ tried_found (Some (instantiate_of kind)) kind 1 g input row
+  instantiate_cut row none =
+      let k = opens_bad (seen_none (take_unsigned (drop 1 input)) (sym none)) in
+      tried-wrong (scanned 1 g (instantiate_of kind) input) (filled kind 1 g (instantiate_of kind) input) row
+      (subst Wrong (walk_bad (tells 1 g input) (instantiate_of kind) 0 1 (Bad k.0 k.1) (sym k.2) k.0 k.1 refl) tt)
 
-    module _ (h : 0 < x.took) where
-      index_is : take_unsigned (drop 1 input) ≡ taken.Value x.value x.took
-      index_is = (index_seen (drop 1 input) x is h).0
+  module _ (x : Number) (is : Some x ≡ seen (take_unsigned (drop 1 input))) where
+    index_is : take_unsigned (drop 1 input) ≡ taken.Value x.value x.took
+    index_is = (index_seen (drop 1 input) x is).0
 
-      opens : along (scan 1 g) (opening (instantiate_of kind)) input 0 1 ≡ Fine (1 + x.took) 2
-      unfolding along scan scan_index
-      opens = rw (lead_is, index_is, add-zero (1 + x.took))
+    opens : along (scan 1 g) (opening (instantiate_of kind)) input 0 1 ≡ Fine (1 + x.took) 2
+    unfolding along scan scan_index
+    opens = rw (lead_is, index_is, add-zero (1 + x.took))
 
-      opens_scanned : scanned 1 g (instantiate_of kind) input ≡ counted_scan 1 g (counted_of kind) input (1 + x.took) 2
-      opens_scanned =
-          sym
-          (walk_counted (tells 1 g input) (instantiate_of kind) 0 1 (Fine (1 + x.took) 2) (sym opens) (1 + x.took) 2 refl refl
-          (counted_scan 1 g (instantiate_of kind) input (1 + x.took) 2) refl)
+    opens_scanned : scanned 1 g (instantiate_of kind) input ≡ counted_scan 1 g (counted_of kind) input (1 + x.took) 2
+    opens_scanned =
+        sym
+        (walk_counted (tells 1 g input) (instantiate_of kind) 0 1 (Fine (1 + x.took) 2) (sym opens) (1 + x.took) 2 refl refl
+        (counted_scan 1 g (instantiate_of kind) input (1 + x.took) 2) refl)
 
-      opens_makes : (fs : List Field)
-          → makes (scan 1 g) (fill g) (opening (instantiate_of kind) ++ fs) 0 input
-          ≡ x.value ∷ makes (scan 1 g) (fill g) fs (1 + x.took) (drop (1 + x.took) input)
-      unfolding makes fill scan scan_index
-      opens_makes fs = rw (lead_is, index_is, drop-drop x.took 1 input, add-zero (1 + x.took))
+    opens_makes : (fs : List Field)
+        → makes (scan 1 g) (fill g) (opening (instantiate_of kind) ++ fs) 0 input
+        ≡ x.value ∷ makes (scan 1 g) (fill g) fs (1 + x.took) (drop (1 + x.took) input)
+    unfolding makes fill scan scan_index
+    opens_makes fs = rw (lead_is, index_is, drop-drop x.took 1 input, add-zero (1 + x.took))
 
-      opens_filled : filled kind 1 g (instantiate_of kind) input
-          ≡ kind ∷ x.value ∷ counted_fill 1 g (counted_of kind) input (1 + x.took)
-      opens_filled =
-          ap (λ ws. kind ∷ ws)
-          (outs_staged (tells 1 g input) (instantiate_of kind) 0 1 (1 + x.took) 2 opens
-          ∙ opens_makes (counted_fields (instantiate_of kind) (index (drop (1 + x.took) input))))
+    opens_filled : filled kind 1 g (instantiate_of kind) input
+        ≡ kind ∷ x.value ∷ counted_fill 1 g (counted_of kind) input (1 + x.took)
+    opens_filled =
+        ap (λ ws. kind ∷ ws)
+        (outs_staged (tells 1 g input) (instantiate_of kind) 0 1 (1 + x.took) 2 opens
+        ∙ opens_makes (counted_fields (instantiate_of kind) (index (drop (1 + x.took) input))))
 
-      pub instantiate_as : (row : List ℕ) {l : LeftTried}
-          → l ≡ tried (counted_scan 1 g (counted_of kind) input (1 + x.took) 2)
-          (take 2 (kind ∷ x.value ∷ []) ++ counted_fill 1 g (counted_of kind) input (1 + x.took)) row
-          → l ≡ tried_found (Is (instantiate_of kind)) kind 1 g input row
-      instantiate_as row e = e ∙ (λ i. tried (sym opens_scanned i) (sym opens_filled i) row)
+    pub instantiate_as : (row : List ℕ) {l : LeftTried}
+        → l ≡ tried (counted_scan 1 g (counted_of kind) input (1 + x.took) 2)
+        (take 2 (kind ∷ x.value ∷ []) ++ counted_fill 1 g (counted_of kind) input (1 + x.took)) row
+        → l ≡ tried_found (Some (instantiate_of kind)) kind 1 g input row
+    instantiate_as row e = e ∙ (λ i. tried (sym opens_scanned i) (sym opens_filled i) row)
 
 -- 01, and what is counted
 pub exports_as : (kind g : ℕ) (input row : List ℕ) → 0 < length input → byte input 0 ≡ 1 → 1 ≤ g → {l : LeftTried}
     → l ≡ tried (counted_scan 1 g (counted_of kind) input 1 1) (take 1 (kind ∷ 0 ∷ []) ++ counted_fill 1 g (counted_of kind) input 1) row
-    → l ≡ tried_found (Is (exports_of kind)) kind 1 g input row
+    → l ≡ tried_found (Some (exports_of kind)) kind 1 g input row
 exports_as kind g input row some first low e =
     let s = many_scanned 1 g 1 (group_one kind) (group_two kind) input some first low in
     let f = many_filled 1 g 1 (group_one kind) (group_two kind) input some first low kind in
@@ -268,23 +265,23 @@ pub kind_as : (k kind g : ℕ) (input row : List ℕ) {l : LeftTried} → kind �
     → l ≡ tried_found (shape_by kind) kind 1 g input row
 kind_as k kind g input row e h = h ∙ ap (λ (n : ℕ). tried_found (shape_by n) n 1 g input row) (sym e)
 
-pub shape_18 : shape_by 18 ≡ Is (instantiate_of 18)
+pub shape_18 : shape_by 18 ≡ Some (instantiate_of 18)
 unfolding shape_by
 shape_18 = refl
 
-pub shape_19 : shape_by 19 ≡ Is (instantiate_of 19)
+pub shape_19 : shape_by 19 ≡ Some (instantiate_of 19)
 unfolding shape_by
 shape_19 = refl
 
-pub shape_20 : shape_by 20 ≡ Is (exports_of 20)
+pub shape_20 : shape_by 20 ≡ Some (exports_of 20)
 unfolding shape_by
 shape_20 = refl
 
-pub shape_21 : shape_by 21 ≡ Is (exports_of 21)
+pub shape_21 : shape_by 21 ≡ Some (exports_of 21)
 unfolding shape_by
 shape_21 = refl
 
 pub shape_none : (kind g : ℕ) (input row : List ℕ) → (kind ≡ 18 → ⊥) → (kind ≡ 19 → ⊥) → (kind ≡ 20 → ⊥) → (kind ≡ 21 → ⊥)
-    → left_tried answer.Not row ≡ tried_found (shape_by kind) kind 1 g input row
+    → left_tried None row ≡ tried_found (shape_by kind) kind 1 g input row
 unfolding shape_by
 shape_none kind g input row a b c d = simp (ne_eqb kind 18 a, ne_eqb kind 19 b, ne_eqb kind 20 c, ne_eqb kind 21 d)

@@ -1,4 +1,5 @@
 -- An extern name at a place of the input: where it ends, and its words, from those that are told of it by value.
+use Rattle.std.specs.Prelude.{Err, Ok, Option, Some, None, IsSome, option_map, unwrap_or}
 use Prim.Native.Nat.{ℕ, suc, ◌+◌, ◌≤◌, ◌<◌, ◌^◌}
 use native.Mathlib.Nat.{zero-add}
 use native.Mathlib.Numerals.{add-one}
@@ -6,38 +7,38 @@ use native.Mathlib.Omega.{arith}
 use mathlib.Core.Path.{◌≡◌, refl, sym, ap, ◌∙◌, subst}
 use mathlib.Core.Bool.{Bool, true, false, cond}
 use mathlib.Core.List.{List, [], ◌∷◌, ◌++◌, append-nil}
-use borrow.Author.Tests.{le-ltb, le-leb, ltb-false}
+use borrow.Author.Tests.{le-ltb, lt-leb, le-leb, ltb-false}
 use lib.Dec.{eqb, ltb}
-use lib.ListN.{length, drop, set, length-set}
+use lib.ListN.{length, drop, set, length-set, length-drop}
 use lib.Seq.{sets, length-sets}
-use Rattle.numbers.specs.declared.leb.Taken.{Taken}
-use Rattle.numbers.specs.declared.leb.Taken.TheVariants as taken
+use Rattle.numbers.specs.Taken.{Taken}
+use Rattle.numbers.specs.Taken as taken
 use Rattle.numbers.specs.Integers.{u32}
 use Rattle.numbers.specs.Leb.{take_unsigned}
 use Rattle.numbers.proofs.BytesLaws.{sets_append}
 use Rattle.numbers.proofs.LebLaws.{taken-inside}
+use Rattle.numbers.proofs.Impossible.{impossible}
 use Rattle.fields.specs.declared.Field.{Field}
 use Rattle.fields.specs.declared.Field.TheVariants as field
-use Rattle.fields.specs.declared.Leaf.{Leaf}
-use Rattle.fields.specs.declared.Leaf.TheVariants.{Fine, Bad}
+use Rattle.fields.specs.Leaf.{Leaf}
+use Rattle.fields.specs.Leaf.{Fine, Bad}
 use Rattle.fields.specs.declared.Refusal.TheVariants.{Limit}
-use Rattle.fields.specs.Words.{word}
+use Rattle.fields.specs.Words.{word, wide}
 use Rattle.reading.specs.Fill.{size_in, index, fill, fill_name, fill_slot, fill_slots, fill_extern}
-use Rattle.reading.specs.Scan.{byte, head_scan, first_scan, second_scan, scan_extern, scan}
+use Rattle.reading.specs.Scan.{byte, past, scan_name, onward, slot_scan, end_scan, head_scan, first_scan, second_scan, scan_extern, scan}
 use Rattle.reading.specs.inside.Steps.{end_of}
 use Rattle.reading.proofs.FillLaws.{set-two}
+use Rattle.reading.proofs.StepLaws.{pair-some}
 use Rattle.reading.specs.inside.Stages.{Inside}
 use Rattle.reading.proofs.ScanLaws.{inside, head_near, first-near, second-near}
 use Rattle.reading.specs.declared.Pair.{Pair}
-use Rattle.reading.specs.Seen.{pair, within}
-use Rattle.items.specs.inside.Import.{no_slot, ExternTold}
-use Rattle.items.proofs.NameLaws.{bare_right, bare_wrong, string_inside}
+use Rattle.reading.specs.Seen.{pair, pair_of, within}
 use Rattle.items.specs.declared.import.Slot.{Slot}
 use Rattle.items.specs.declared.import.Extern.{Extern}
-use Rattle.items.specs.ReadExtern.{slot_words, extern_words, Says, extern_within, ExternRead}
+use Rattle.items.specs.ReadExtern.{slot_words, extern_words, extern_within, value_of_extern, value_of, read_extern}
 use Rattle.instance_items.specs.inside.Extern.{moved_start, moved_slot, moved_extern, Near}
 use Rattle.instance_items.specs.inside.Group.{group_one}
-use Rattle.instance_items.proofs.FieldLaws.{some_of, one_extern}
+use Rattle.instance_items.proofs.FieldLaws.{one_extern}
 
 -- ---- where it ends
 
@@ -47,76 +48,74 @@ unfolding within
 limits_pass g bs h low high = simp (le-ltb (2 ^ 30) (length bs) h, le-ltb g 1 low, le-ltb 3 g high)
 
 -- no byte, no extern name
-extern_empty : (g : ℕ) (bs : List ℕ) → length bs ≤ 0 → end_of (scan_extern g bs) ≡ 0
+extern_empty : (g : ℕ) (bs : List ℕ) → length bs ≤ 0 → end_of (scan_extern g bs) ≡ None
 unfolding scan_extern second_scan first_scan head_scan end_of
 extern_empty g bs h = simp (le-leb (length bs) 0 h)
 
--- what is told of it says where it ends
-told_end : (g : ℕ) (bs : List ℕ) (e : Extern) → ExternTold g bs e → e.took ≡ end_of (scan 1 g field.ExternName bs)
-unfolding scan end_of
-told_end g bs e x = go (scan_extern g bs) x
-  where
-    go : (l : Leaf) → Says l (fill_extern g 0 bs) e → e.took ≡ end_of l
-    go (Fine t m) x = x.1
-    go (Bad w j) x = x
-
--- 00 and a name n
-module _ (g : ℕ) (bs : List ℕ) (some : length bs ≡ 0 → ⊥) (first : byte bs 0 ≡ 0) (n : Pair) (e : n ≡ pair 1 field.Name (drop 1 bs)) where
-  pub bare_took : (n.took ≡ 0 → ⊥) → 1 + n.took ≡ end_of (scan 1 g field.ExternName bs)
-  bare_took h =
-      told_end g bs _ (bare_right g bs (some_of (length bs) some) n e first (some_of n.took h) (no_slot 0 0) refl)
-
-  pub bare_none : n.took ≡ 0 → 0 ≡ end_of (scan 1 g field.ExternName bs)
-  bare_none z =
-      let nothing : Extern =
-      record { took = 0; start = 0; size = 0; implements = no_slot 0 0; suffix = no_slot 0 0; id = no_slot 0 0 } in
-      told_end g bs nothing (bare_wrong g bs (some_of (length bs) some) n e first z nothing refl)
-
-  pub bare_inside : (n.took ≡ 0 → ⊥) → 1 + n.took ≤ length bs
-  bare_inside h = string_inside bs 1 n e (some_of n.took h)
-
-pub extern_nothing : (g : ℕ) (bs : List ℕ) → length bs ≡ 0 → 0 ≡ end_of (scan 1 g field.ExternName bs)
+pub extern_nothing : (g : ℕ) (bs : List ℕ) → length bs ≡ 0 → None ≡ end_of (scan 1 g field.ExternName bs)
 unfolding scan
 extern_nothing g bs z = sym (extern_empty g bs (omega (arith, z)))
 
-module _ (kind g : ℕ) (bs : List ℕ) (e : Extern) (is : kind ≡ 21) (h : length bs ≤ 2 ^ 30) (low : 1 ≤ g) (high : g ≤ 3)
-    (told : ExternRead g bs e) where
-  -- what is told, by whether there is a byte
-  told_if : (b : Bool) → ltb 0 (length bs) ≡ b → Says (cond b (scan_extern g bs) (Bad Limit 0)) (fill_extern g 0 bs) e
-  unfolding extern_within
-  told_if b p =
-      subst (λ (x : Bool). Says (cond x (scan_extern g bs) (Bad Limit 0)) (fill_extern g 0 bs) e) (limits_pass g bs h low high ∙ p) told
+limits_end : (g : ℕ) (bs : List ℕ) → length bs ≤ 2 ^ 30 → 1 ≤ g → g ≤ 3 → end_of (extern_within g bs) ≡ end_of (scan_extern g bs)
+unfolding extern_within end_of
+limits_end g bs h low high = go (ltb 0 (length bs)) refl
+  where
+    go : (b : Bool) → ltb 0 (length bs) ≡ b → end_of (cond (within 1 g bs) (scan_extern g bs) (Bad Limit 0)) ≡ end_of (scan_extern g bs)
+    go true p = ap (λ (x : Bool). end_of (cond x (scan_extern g bs) (Bad Limit 0))) (limits_pass g bs h low high ∙ p)
+    go false p =
+        ap (λ (x : Bool). end_of (cond x (scan_extern g bs) (Bad Limit 0))) (limits_pass g bs h low high ∙ p)
+        ∙ sym (extern_empty g bs (ltb-false 0 (length bs) p))
 
-  extern_end : e.took ≡ end_of (scan_extern g bs)
-  unfolding end_of
-  extern_end = go (ltb 0 (length bs)) refl
+-- 00 and a name
+module _ (g : ℕ) (bs : List ℕ) (some : 0 < length bs) where
+  pub bare_took : byte bs 0 ≡ 0
+      → option_map (λ (n : Pair). 1 + n.took) (pair 1 field.Name (drop 1 bs)) ≡ end_of (scan 1 g field.ExternName bs)
+  unfolding scan scan_extern second_scan first_scan head_scan slot_scan end_scan pair_of end_of
+  bare_took first = simp (lt-leb (length bs) 0 some, first) (go (scan_name (drop 1 bs)) (fill 1 field.Name 0 (drop 1 bs)))
     where
-      fine : (l : Leaf) → Says l (fill_extern g 0 bs) e → e.took ≡ end_of l
-      fine (Fine t m) x = x.1
-      fine (Bad w j) x = x
+      named_end : Leaf → Leaf
+      named_end l =
+          onward (onward (onward (onward (onward (past 1 l) (λ next m. Fine next 0)) (slot_scan 0 bs)) (slot_scan 1 bs)) (slot_scan 2 bs))
+          (end_scan bs)
 
-      go : (b : Bool) → ltb 0 (length bs) ≡ b → e.took ≡ end_of (scan_extern g bs)
-      go true p = fine (scan_extern g bs) (told_if true p)
-      go false p = told_if false p ∙ sym (extern_empty g bs (ltb-false 0 (length bs) p))
+      go : (l : Leaf) (ws : List ℕ) → option_map (λ (n : Pair). 1 + n.took) (pair_of l ws) ≡ end_of (named_end l)
+      go (Ok span) ws = refl
+      go (Err fault) ws = refl
 
-  pub extern_told : e.took ≡ end_of (scan 1 g field.ExternName bs)
-  unfolding scan
-  extern_told = extern_end
+  pub bare_inside : (n : Pair) → pair 1 field.Name (drop 1 bs) ≡ Some n → 1 + n.took ≤ length bs
+  unfolding wide
+  bare_inside n e = omega (arith, (pair-some 1 field.Name (drop 1 bs) refl n e).2, length-drop 1 bs, some)
 
-  extern_took_lem : e.took ≡ end_of (scan 1 g (group_one kind) bs)
-  extern_took_lem = extern_told ∙ ap (λ (f : Field). end_of (scan 1 g f bs)) (sym (one_extern kind is))
+-- ---- what is told of it by value
 
-  -- its words at the front, where it is right
-  extern_front : 0 < e.took → extern_words e ≡ fill_extern g 0 bs
-  extern_front some = go (ltb 0 (length bs)) refl
-    where
-      fine : (l : Leaf) → Says l (fill_extern g 0 bs) e → extern_words e ≡ fill_extern g 0 bs
-      fine (Fine t m) x = x.2
-      fine (Bad w j) x = absurd (omega (arith, some, x))
+-- the value of an extern name says where it ends, and its words
+value-took : (r : Option Extern) (l : Leaf) (ws : List ℕ) → option_map value_of_extern r ≡ value_of l ws
+    → option_map (λ (e : Extern). e.took) r ≡ end_of l
+unfolding end_of
+value-took (Some e) (Ok span) ws h = ap (option_map (λ (vs : List ℕ). word vs 0)) h
+value-took (Some e) (Err fault) ws h = impossible cc
+value-took None (Ok span) ws h = impossible cc
+value-took None (Err fault) ws h = refl
 
-      go : (b : Bool) → ltb 0 (length bs) ≡ b → extern_words e ≡ fill_extern g 0 bs
-      go true p = fine (scan_extern g bs) (told_if true p)
-      go false p = absurd (omega (arith, some, told_if false p))
+value-words : (e : Extern) (l : Leaf) (ws : List ℕ) → Some (value_of_extern e) ≡ value_of l ws → extern_words e ≡ ws
+value-words e (Ok span) ws h = ap (λ (o : Option (List ℕ)). drop 1 (unwrap_or o [])) h
+value-words e (Err fault) ws h = impossible cc
+
+took-right : (r : Option Extern) → IsSome (option_map (λ (e : Extern). e.took) r) → IsSome r
+took-right (Some e) h = refl
+took-right None h = impossible cc
+
+module _ (g : ℕ) (bs : List ℕ) (h : length bs ≤ 2 ^ 30) (low : 1 ≤ g) (high : g ≤ 3) (r : Option Extern)
+    (told : option_map value_of_extern r ≡ read_extern g bs) where
+  pub extern_told : option_map (λ (e : Extern). e.took) r ≡ end_of (scan 1 g field.ExternName bs)
+  unfolding scan read_extern
+  extern_told = value-took r (extern_within g bs) (fill_extern g 0 bs) told ∙ limits_end g bs h low high
+
+  -- one that is right is told
+  pub extern_right : (kind : ℕ) → kind ≡ 21 → IsSome (end_of (scan 1 g (group_one kind) bs)) → IsSome r
+  extern_right kind is right =
+      took-right r
+      (subst (λ (o : Option ℕ). IsSome o) (ap (λ (f : Field). end_of (scan 1 g f bs)) (one_extern kind is) ∙ sym extern_told) right)
 
 -- ---- its words at a place
 
@@ -124,7 +123,7 @@ size_small : (bs : List ℕ) → size_in (take_unsigned bs) ≤ 5
 size_small bs = go (take_unsigned bs) refl
   where
     go : (t : Taken) → take_unsigned bs ≡ t → size_in t ≤ 5
-    go (taken.Value n t) e = (taken-inside u32 bs n t e).1
+    go (Ok taken2) e = (taken-inside u32 bs taken2.value taken2.took e).1
     go taken.Cut e = omega arith
     go taken.Bad e = omega arith
 
@@ -136,22 +135,22 @@ data Moved (most at : ℕ) : List ℕ → List ℕ → Type 0 where
 slot-moved : (k at : ℕ) (bs : List ℕ) (l : Leaf) → Inside l (length bs)
     → Moved (length bs + 6) at (fill_slot k 0 bs l) (fill_slot k at bs l)
 unfolding fill_slot fill_name
-slot-moved k at bs (Fine from due) h = go (eqb due 0) (eqb (byte bs from) k)
+slot-moved k at bs (Ok span) h = go (eqb span.made 0) (eqb (byte bs span.took) k)
   where
     start : ℕ
-    start = from + 1 + size_in (take_unsigned (drop (from + 1) bs))
+    start = span.took + 1 + size_in (take_unsigned (drop (span.took + 1) bs))
 
     size : ℕ
-    size = index (drop (from + 1) bs)
+    size = index (drop (span.took + 1) bs)
 
     go : (a b : Bool)
         → Moved (length bs + 6) at
         (cond a (0 ∷ 0 ∷ 0 ∷ []) (cond b (1 ∷ (0 + start) ∷ size ∷ []) (0 ∷ 0 ∷ 0 ∷ [])))
         (cond a (0 ∷ 0 ∷ 0 ∷ []) (cond b (1 ∷ (at + start) ∷ size ∷ []) (0 ∷ 0 ∷ 0 ∷ [])))
     go true b = absent
-    go false true = placed start size (omega (arith, h, size_small (drop (from + 1) bs)))
+    go false true = placed start size (omega (arith, h, size_small (drop (span.took + 1) bs)))
     go false false = absent
-slot-moved k at bs (Bad y j) h = absent
+slot-moved k at bs (Err fault) h = absent
 
 moved-step : {most at : ℕ} {ws vs : List ℕ} → Moved most at ws vs → (s : Slot) (tail rest : List ℕ) → slot_words s ++ tail ≡ ws ++ rest
     → (moved_slot at s ≡ vs) × (s.start ≤ most) × (tail ≡ rest)
@@ -191,19 +190,17 @@ extern_moved g at bs e w =
       c.1,
     )
 
--- an extern name that is right: its starts are words, and these are its words at a place
+-- an extern name that is told: its starts are words, and these are its words at a place
 pub extern_stored : (kind g at : ℕ) (bs : List ℕ) (e : Extern) → kind ≡ 21 → at + length bs ≤ 2 ^ 30 → 1 ≤ g → g ≤ 3
-    → ExternRead g bs e → 0 < end_of (scan 1 g (group_one kind) bs)
-    → (Near at e) × (moved_extern at e ≡ fill g (group_one kind) at bs) × (e.took ≡ end_of (scan 1 g (group_one kind) bs))
-unfolding fill
-extern_stored kind g at bs e is h low high told some =
-    let small : length bs ≤ 2 ^ 30 = omega (arith, h) in
-    let took = extern_took_lem kind g bs e is small low high told in
-    let there : 0 < e.took = subst (λ (n : ℕ). 0 < n) (sym took) some in
-    let m = extern_moved g at bs e (extern_front kind g bs e is small low high told there) in (
+    → Some (value_of_extern e) ≡ read_extern g bs
+    → (Near at e) × (moved_extern at e ≡ fill g (group_one kind) at bs) × (Some e.took ≡ end_of (scan 1 g (group_one kind) bs))
+unfolding fill read_extern
+extern_stored kind g at bs e is h low high told =
+    let took = extern_told g bs (omega (arith, h)) low high (Some e) told in
+    let m = extern_moved g at bs e (value-words e (extern_within g bs) (fill_extern g 0 bs) told) in (
       (omega (arith, h, m.1), omega (arith, h, m.2), omega (arith, h, m.3), omega (arith, h, m.4)),
       m.0 ∙ ap (λ (f : Field). fill g f at bs) (sym (one_extern kind is)),
-      took,
+      took ∙ ap (λ (f : Field). end_of (scan 1 g f bs)) (sym (one_extern kind is)),
     )
 
 -- ---- its words stored

@@ -1,5 +1,6 @@
 -- The fields of a group by the kind; and the second field as straight code reads it: what the tests on its bytes, and an index that is
 -- seen behind them, say of its scan and its words.
+use Rattle.std.specs.Prelude.{Err, Ok, Option, Some, None, IsSome, option_map}
 use Prim.Native.Nat.{ℕ, zero, suc, ◌+◌, ◌≤◌, ◌<◌}
 use native.Mathlib.Omega.{arith}
 use mathlib.Core.Path.{◌≡◌, refl, sym, ap, ◌∙◌, subst}
@@ -9,28 +10,24 @@ use borrow.Author.Tests.{lt-ltb, le-ltb, lt-leb, le-leb, ne_eqb}
 use lib.Dec.{eqb}
 use lib.ListN.{length, drop}
 use Rattle.numbers.specs.declared.leb.Number.{Number}
-use Rattle.numbers.specs.declared.leb.Taken.{Taken}
-use Rattle.numbers.specs.declared.leb.Taken.TheVariants as taken
-use Rattle.numbers.specs.Integers.{u32}
+use Rattle.numbers.specs.Taken.{Taken}
+use Rattle.numbers.specs.Taken as taken
 use Rattle.numbers.specs.Leb.{take_unsigned}
 use Rattle.numbers.specs.Seen.{seen}
-use Rattle.numbers.proofs.LebLaws.{taken-inside}
-use Rattle.numbers.proofs.SeenLaws.{seen_none}
+use Rattle.numbers.proofs.Impossible.{impossible}
 use Rattle.fields.specs.declared.Field.{Field}
 use Rattle.fields.specs.declared.Field.TheVariants as field
-use Rattle.fields.specs.declared.Leaf.{Leaf}
-use Rattle.fields.specs.declared.Leaf.TheVariants.{Fine, Bad}
+use Rattle.fields.specs.Leaf.{Leaf}
 use Rattle.fields.specs.Words.{wide}
 use Rattle.reading.specs.Fill.{value_in, index, fill, fill_sort_index}
 use Rattle.reading.specs.Scan.{byte, past, numbered, scan, scan_index, scan_module, scan_argument, scan_core_sort_index, scan_sort_index}
 use Rattle.reading.specs.declared.Pair.{Pair}
-use Rattle.reading.specs.Seen.{pair, pair_of, pair_is, no_pair}
+use Rattle.reading.specs.Seen.{pair, pair_of, pair_is}
 use Rattle.reading.specs.inside.Steps.{end_of}
-use Rattle.reading.proofs.FillLaws.{name_words}
-use Rattle.reading.proofs.LeafLaws.{index_seen}
+use Rattle.reading.proofs.FillLaws.{name_seen, name_words}
 use Rattle.reading.proofs.ScannedLaws.{one_takes}
 use Rattle.reading.proofs.StepLaws.{Taking, pair-some}
-use Rattle.instance_items.specs.inside.Group.{group_one, group_two, sort_is, sort_pair}
+use Rattle.instance_items.specs.inside.Group.{group_one, group_two, sort_is, sort_pair, argument_is}
 
 -- ---- the fields by the kind
 
@@ -132,97 +129,101 @@ some_of (suc n) h = omega arith
 
 -- ---- what a step says of where its field ends
 
-pub pair-took : (g : ℕ) (f : Field) (bs : List ℕ) {x : Pair} → x ≡ pair g f bs → x.took ≡ end_of (scan 1 g f bs)
+abbrev pub took_of : Option Pair → Option ℕ
+took_of r = option_map (λ (x : Pair). x.took) r
+
+pub pair-took : (g : ℕ) (f : Field) (bs : List ℕ) → took_of (pair g f bs) ≡ end_of (scan 1 g f bs)
 unfolding pair_of end_of
-pair-took g f bs e = ap (λ (x : Pair). x.took) e ∙ go (scan 1 g f bs)
+pair-took g f bs = go (scan 1 g f bs)
   where
-    go : (l : Leaf) → (pair_of l (fill g f 0 bs)).took ≡ end_of l
-    go (Fine t m) = refl
-    go (Bad w j) = refl
+    go : (l : Leaf) → took_of (pair_of l (fill g f 0 bs)) ≡ end_of l
+    go (Ok span) = refl
+    go (Err fault) = refl
+
+-- a step whose field is right answers
+pub pair-right : (g : ℕ) (f : Field) (bs : List ℕ) → IsSome (end_of (scan 1 g f bs)) → IsSome (pair g f bs)
+unfolding pair_of end_of
+pair-right g f bs h = go (scan 1 g f bs) h
+  where
+    go : (l : Leaf) → IsSome (end_of l) → IsSome (pair_of l (fill g f 0 bs))
+    go (Ok span) h = refl
+    go (Err fault) h = impossible cc
 
 -- a name
-pub name-took : (kind g : ℕ) (bs : List ℕ) {x : Pair} → (kind ≡ 21 → ⊥) → x ≡ pair 1 field.Name bs
-    → x.took ≡ end_of (scan 1 g (group_one kind) bs)
+pub name-took : (kind g : ℕ) (bs : List ℕ) → (kind ≡ 21 → ⊥) → took_of (pair 1 field.Name bs) ≡ end_of (scan 1 g (group_one kind) bs)
 unfolding scan
-name-took kind g bs n e =
-    pair-took 1 field.Name bs e ∙ ap (λ (f : Field). end_of (scan 1 g f bs)) (sym (one_name kind n))
+name-took kind g bs n = pair-took 1 field.Name bs ∙ ap (λ (f : Field). end_of (scan 1 g f bs)) (sym (one_name kind n))
 
--- a name that is right, whose length is seen as x
-pub name-stored : (kind g at : ℕ) (bs : List ℕ) (x : Number) → (kind ≡ 21 → ⊥) → x ≡ seen (take_unsigned bs)
-    → 0 < end_of (scan 1 g (group_one kind) bs)
-    → (x.took + x.value ≡ end_of (scan 1 g (group_one kind) bs))
+-- a name that is right: its length is seen
+pub name-seen : (kind g : ℕ) (bs : List ℕ) → (kind ≡ 21 → ⊥) → IsSome (end_of (scan 1 g (group_one kind) bs)) → IsSome (seen (take_unsigned bs))
+unfolding end_of
+name-seen kind g bs n h =
+    go (scan 1 g field.Name bs) refl (subst (λ (f : Field). IsSome (end_of (scan 1 g f bs))) (one_name kind n) h)
+  where
+    go : (l : Leaf) → scan 1 g field.Name bs ≡ l → IsSome (end_of l) → IsSome (seen (take_unsigned bs))
+    go (Ok span) p h = name_seen g bs span.took span.made p
+    go (Err fault) p h = impossible cc
+
+-- where it is seen as x
+pub name-stored : (kind g at : ℕ) (bs : List ℕ) (x : Number) → (kind ≡ 21 → ⊥) → seen (take_unsigned bs) ≡ Some x
+    → IsSome (end_of (scan 1 g (group_one kind) bs))
+    → (Some (x.took + x.value) ≡ end_of (scan 1 g (group_one kind) bs))
     × (fill g (group_one kind) at bs ≡ (at + x.took) ∷ x.value ∷ []) × (x.took + x.value ≤ length bs)
 unfolding end_of
 name-stored kind g at bs x n e h =
     subst
-    (λ (f : Field). (x.took + x.value ≡ end_of (scan 1 g f bs)) × (fill g f at bs ≡ (at + x.took) ∷ x.value ∷ [])
+    (λ (f : Field). (Some (x.took + x.value) ≡ end_of (scan 1 g f bs)) × (fill g f at bs ≡ (at + x.took) ∷ x.value ∷ [])
     × (x.took + x.value ≤ length bs))
     (sym (one_name kind n))
-    (go (scan 1 g field.Name bs) refl (subst (λ (f : Field). 0 < end_of (scan 1 g f bs)) (one_name kind n) h))
+    (go (scan 1 g field.Name bs) refl (subst (λ (f : Field). IsSome (end_of (scan 1 g f bs))) (one_name kind n) h))
   where
-    go : (l : Leaf) → scan 1 g field.Name bs ≡ l → 0 < end_of l
-        → (x.took + x.value ≡ end_of l) × (fill g field.Name at bs ≡ (at + x.took) ∷ x.value ∷ []) × (x.took + x.value ≤ length bs)
-    go (Fine t m) p h =
-        let w = name_words g at bs t m p in
-        let b = one_takes 1 g field.Name bs (scan 1 g field.Name bs) refl t m p in
-        let same : x.took + x.value ≡ t = ap (λ (y : Number). y.took + y.value) e ∙ sym w.3 in
-        (same, w.4 ∙ ap (λ (y : Number). (at + y.took) ∷ y.value ∷ []) (sym e), omega (arith, same, b.0))
-    go (Bad w j) p h = absurd (omega arith)
+    go : (l : Leaf) → scan 1 g field.Name bs ≡ l → IsSome (end_of l)
+        → (Some (x.took + x.value) ≡ end_of l) × (fill g field.Name at bs ≡ (at + x.took) ∷ x.value ∷ []) × (x.took + x.value ≤ length bs)
+    go (Ok span) p h =
+        let w = name_words g at bs span.took span.made p x e in
+        let b = one_takes 1 g field.Name bs (scan 1 g field.Name bs) refl span.took span.made p in
+        (ap Some (sym w.3), w.4, omega (arith, w.3, b.0))
+    go (Err fault) p h = impossible cc
 
 -- the words of the second field, where it is right
-pub argument_words : (kind : ℕ) (bs : List ℕ) {x : Pair} → kind ≡ 18 → x ≡ pair 1 (group_two kind) bs
-    → 0 < end_of (scan 1 1 (group_two kind) bs) → x.a ∷ [] ≡ fill 1 (group_two kind) 0 bs
-unfolding end_of pair_of fill
-argument_words kind bs {x} k e h =
+pub argument_words : (kind : ℕ) (bs : List ℕ) (x : Pair) → kind ≡ 18 → Some x ≡ pair 1 (group_two kind) bs
+    → x.a ∷ [] ≡ fill 1 (group_two kind) 0 bs
+unfolding pair_of fill
+argument_words kind bs x k e =
     let f : group_two kind ≡ field.Argument = two-argument kind k in
-    ap (λ (y : Pair). y.a ∷ []) (e ∙ ap (λ (f : Field). pair 1 f bs) f)
-    ∙ go (scan 1 1 field.Argument bs) (subst (λ (f : Field). 0 < end_of (scan 1 1 f bs)) f h)
-    ∙ ap (λ (f : Field). fill 1 f 0 bs) (sym f)
+    go (scan 1 1 field.Argument bs) (e ∙ ap (λ (f : Field). pair 1 f bs) f) ∙ ap (λ (f : Field). fill 1 f 0 bs) (sym f)
   where
-    go : (l : Leaf) → 0 < end_of l → (pair_of l (index (drop 1 bs) ∷ [])).a ∷ [] ≡ index (drop 1 bs) ∷ []
-    go (Fine t m) h = refl
-    go (Bad w j) h = absurd (omega arith)
+    go : (l : Leaf) → Some x ≡ pair_of l (index (drop 1 bs) ∷ []) → x.a ∷ [] ≡ index (drop 1 bs) ∷ []
+    go (Ok span) h =
+        let same : x ≡ pair_is span.took (index (drop 1 bs)) 0 = cc in
+        ap (λ (y : Pair). y.a ∷ []) same
+    go (Err fault) h = impossible cc
 
-pub pair-words : (kind : ℕ) (bs : List ℕ) {x : Pair} → (kind ≡ 18 → ⊥) → x ≡ pair 1 (group_two kind) bs
-    → 0 < end_of (scan 1 1 (group_two kind) bs) → x.a ∷ x.b ∷ [] ≡ fill 1 (group_two kind) 0 bs
-pair-words kind bs {x} k e h =
-    let t : end_of (scan 1 1 (group_two kind) bs) ≡ (pair 1 (group_two kind) bs).took = sym (pair-took 1 (group_two kind) bs refl) in
-    ap (λ (y : Pair). y.a ∷ y.b ∷ []) e
-    ∙ sym (pair-some 1 (group_two kind) bs (two-wide-pair kind k) (subst (λ (n : ℕ). 0 < n) t h)).1
+pub pair-words : (kind : ℕ) (bs : List ℕ) (x : Pair) → (kind ≡ 18 → ⊥) → Some x ≡ pair 1 (group_two kind) bs
+    → x.a ∷ x.b ∷ [] ≡ fill 1 (group_two kind) 0 bs
+pair-words kind bs x k e = sym (pair-some 1 (group_two kind) bs (two-wide-pair kind k) x (sym e)).1
 
 -- ---- a sort and, behind k bytes, an index
-
-module _ (sort k : ℕ) (bs : List ℕ) (n : Number) (e : n ≡ seen (take_unsigned (drop k bs))) where
-  pub sorted_some : 0 < n.took → pair_is (k + n.took) sort n.value ≡ sort_pair sort k bs
-  sorted_some h =
-      let is : pair_is (k + n.took) sort n.value ≡ sort_is sort k n = simp (lt-ltb 0 n.took h) in
-      is ∙ ap (λ (x : Number). sort_is sort k x) e
-
-  pub sorted_none : n.took ≤ 0 → no_pair ≡ sort_pair sort k bs
-  sorted_none h =
-      let is : no_pair ≡ sort_is sort k n = simp (le-ltb 0 n.took h) in
-      is ∙ ap (λ (x : Number). sort_is sort k x) e
 
 sorted_is : (sort k : ℕ) (bs : List ℕ)
     → sort_pair sort k bs ≡ pair_of (past k (scan_index 2 (drop k bs))) (sort ∷ index (drop k bs) ∷ [])
 unfolding scan_index pair_of
-sorted_is sort k bs = go (take_unsigned (drop k bs)) refl
+sorted_is sort k bs = go (take_unsigned (drop k bs))
   where
-    go : (t : Taken) → take_unsigned (drop k bs) ≡ t
-        → sort_is sort k (seen t) ≡ pair_of (past k (numbered (drop k bs) t 2)) (sort ∷ value_in t ∷ [])
-    go (taken.Value v t) x = simp (lt-ltb 0 t (taken-inside u32 (drop k bs) v t x).0)
-    go taken.Cut x = refl
-    go taken.Bad x = refl
+    go : (t : Taken) → option_map (sort_is sort k) (seen t) ≡ pair_of (past k (numbered (drop k bs) t 2)) (sort ∷ value_in t ∷ [])
+    go (Ok taken2) = refl
+    go taken.Cut = refl
+    go taken.Bad = refl
 
 -- no byte
-pub second_empty : (kind g : ℕ) (bs : List ℕ) → length bs ≡ 0 → no_pair ≡ pair g (group_two kind) bs
+pub second_empty : (kind g : ℕ) (bs : List ℕ) → length bs ≡ 0 → None ≡ pair g (group_two kind) bs
 unfolding group_two scan scan_argument scan_core_sort_index scan_sort_index pair_of
 second_empty kind g bs z = go (eqb kind 18) (eqb kind 20)
   where
     short : length bs ≤ 0
     short = omega arith
 
-    go : (a b : Bool) → no_pair ≡ pair g (cond a field.Argument (cond b field.CoreSortIndex field.SortIndex)) bs
+    go : (a b : Bool) → None ≡ pair g (cond a field.Argument (cond b field.CoreSortIndex field.SortIndex)) bs
     go true b = simp (le-leb (length bs) 0 short)
     go false true = simp (le-leb (length bs) 0 short)
     go false false = simp (le-leb (length bs) 0 short)
@@ -230,24 +231,16 @@ second_empty kind g bs z = go (eqb kind 18) (eqb kind 20)
 module _ (g : ℕ) (bs : List ℕ) (some : 0 < length bs) where
   -- ---- an argument
 
-  module _ (n : Number) (e : n ≡ seen (take_unsigned (drop 1 bs))) (first : byte bs 0 ≡ 0x12) where
-    pub argument_some : 0 < n.took → pair_is (1 + n.took) n.value 0 ≡ pair g field.Argument bs
-    unfolding scan fill scan_argument scan_index pair_of
-    argument_some h = simp (lt-leb (length bs) 0 some, first, (index_seen (drop 1 bs) n e h).0)
+  pub argument_seen : byte bs 0 ≡ 0x12 → option_map argument_is (seen (take_unsigned (drop 1 bs))) ≡ pair g field.Argument bs
+  unfolding scan fill scan_argument scan_index pair_of
+  argument_seen first = simp (lt-leb (length bs) 0 some, first) (go (take_unsigned (drop 1 bs)))
+    where
+      go : (t : Taken) → option_map argument_is (seen t) ≡ pair_of (past 1 (numbered (drop 1 bs) t 1)) (value_in t ∷ [])
+      go (Ok taken2) = refl
+      go taken.Cut = refl
+      go taken.Bad = refl
 
-    pub argument_none : n.took ≤ 0 → no_pair ≡ pair g field.Argument bs
-    unfolding scan scan_argument scan_index pair_of
-    argument_none h = simp (lt-leb (length bs) 0 some, first) (go (take_unsigned (drop 1 bs)) refl (fill g field.Argument 0 bs))
-      where
-        none : (seen (take_unsigned (drop 1 bs))).took ≡ 0
-        none = let z : n.took ≡ 0 = omega arith in ap (λ (x : Number). x.took) (sym e) ∙ z
-
-        go : (t : Taken) → take_unsigned (drop 1 bs) ≡ t → (ws : List ℕ) → no_pair ≡ pair_of (past 1 (numbered (drop 1 bs) t 1)) ws
-        go (taken.Value v t) x ws = absurd (seen_none u32 (drop 1 bs) none v t x)
-        go taken.Cut x ws = refl
-        go taken.Bad x ws = refl
-
-  pub argument_other : (byte bs 0 ≡ 0x12 → ⊥) → no_pair ≡ pair g field.Argument bs
+  pub argument_other : (byte bs 0 ≡ 0x12 → ⊥) → None ≡ pair g field.Argument bs
   unfolding scan scan_argument pair_of
   argument_other n = simp (lt-leb (length bs) 0 some, ne_eqb (byte bs 0) 0x12 n)
 
@@ -257,14 +250,14 @@ module _ (g : ℕ) (bs : List ℕ) (some : 0 < length bs) where
   unfolding scan fill scan_core_sort_index
   core_is s = sorted_is (byte bs 0) 1 bs ∙ simp (lt-leb (length bs) 0 some, lt-ltb (byte bs 0) 5 s)
 
-  pub core_other : 5 ≤ byte bs 0 → no_pair ≡ pair g field.CoreSortIndex bs
+  pub core_other : 5 ≤ byte bs 0 → None ≡ pair g field.CoreSortIndex bs
   unfolding scan scan_core_sort_index pair_of
   core_other s = simp (lt-leb (length bs) 0 some, le-ltb (byte bs 0) 5 s)
 
   -- ---- a sort
 
   module _ (first : byte bs 0 ≡ 0) where
-    pub sort_short : length bs ≡ 1 → no_pair ≡ pair g field.SortIndex bs
+    pub sort_short : length bs ≡ 1 → None ≡ pair g field.SortIndex bs
     unfolding scan scan_sort_index scan_module pair_of
     sort_short z =
         let short : length bs ≤ 1 = omega arith in
@@ -283,7 +276,7 @@ module _ (g : ℕ) (bs : List ℕ) (some : 0 < length bs) where
       unfolding scan fill scan_sort_index scan_module fill_sort_index
       sort_module s = sorted_is 0 2 bs ∙ simp (lt-leb (length bs) 0 some, first, lt-leb (length bs) 1 long, s)
 
-      pub sort_not : (byte bs 1 ≡ 0x11 → ⊥) → no_pair ≡ pair g field.SortIndex bs
+      pub sort_not : (byte bs 1 ≡ 0x11 → ⊥) → None ≡ pair g field.SortIndex bs
       unfolding scan scan_sort_index scan_module pair_of
       sort_not s = simp (lt-leb (length bs) 0 some, first, lt-leb (length bs) 1 long, ne_eqb (byte bs 1) 0x11 s)
 
@@ -292,6 +285,6 @@ module _ (g : ℕ) (bs : List ℕ) (some : 0 < length bs) where
     unfolding scan fill scan_sort_index fill_sort_index
     sort_is_lem s = sorted_is (byte bs 0) 1 bs ∙ simp (lt-leb (length bs) 0 some, ne_eqb (byte bs 0) 0 other, lt-ltb (byte bs 0) 6 s)
 
-    pub sort_other : 6 ≤ byte bs 0 → no_pair ≡ pair g field.SortIndex bs
+    pub sort_other : 6 ≤ byte bs 0 → None ≡ pair g field.SortIndex bs
     unfolding scan scan_sort_index pair_of
     sort_other s = simp (lt-leb (length bs) 0 some, ne_eqb (byte bs 0) 0 other, le-ltb (byte bs 0) 6 s)

@@ -1,4 +1,5 @@
 -- The loops over groups: what a step says of a field at a place of the input, where groups end, and how their words are stored.
+use Rattle.std.specs.Prelude.{Err, Ok, Option, Some, None, IsSome}
 use Prim.Native.Nat.{ℕ, suc, ◌+◌, ◌-◌, ◌*◌, ◌≤◌, ◌<◌}
 use native.Mathlib.Nat.{suc-mul}
 use native.Mathlib.Omega.{arith}
@@ -8,8 +9,8 @@ use lib.ListN.{length, take, drop, length-drop}
 use lib.Seq.{sets}
 use Rattle.numbers.proofs.BytesLaws.{to_end, sets_append}
 use Rattle.fields.specs.declared.Field.{Field}
-use Rattle.fields.specs.declared.Leaf.{Leaf}
-use Rattle.fields.specs.declared.Leaf.TheVariants.{Fine, Bad}
+use Rattle.fields.specs.Leaf.{Leaf}
+use Rattle.fields.specs.Leaf.{Fine}
 use Rattle.fields.specs.Words.{wide}
 use Rattle.fields.specs.Shape.{widths}
 use Rattle.reading.specs.Fill.{fill}
@@ -19,7 +20,8 @@ use Rattle.reading.proofs.FilledLaws.{fill-length}
 use Rattle.reading.proofs.FillLaws.{Stands, Filling, filling_as, filling_first, filling_second, filling_next}
 use Rattle.reading.proofs.StepLaws.{Wrong, Taking, scan-takes}
 use Rattle.instance_items.specs.inside.Group.{group_one, group_two, group_of}
-use Rattle.instance_items.proofs.FieldLaws.{one-taking, two_taking, two_scan, two_fill}
+use Rattle.instance_items.proofs.FieldLaws.{two_scan, two_fill}
+use Rattle.numbers.proofs.Impossible.{impossible}
 
 -- the input from a place on
 abbrev pub part : List ℕ → ℕ → List ℕ
@@ -28,42 +30,43 @@ part input at = take (length input - at) (drop at input)
 pub part_length : (input : List ℕ) (at : ℕ) → length (part input at) ≡ length input - at
 part_length input at = ap length (to_end input at) ∙ length-drop at input
 
--- a field that takes bytes is right
-pub took-some : (g : ℕ) (f : Field) (input : List ℕ) (at : ℕ) {t : ℕ} → Taking f → t ≡ end_of (scan 1 g f (part input at)) → (t ≡ 0 → ⊥)
+-- a field that ends is right
+pub took-some : (g : ℕ) (f : Field) (input : List ℕ) (at : ℕ) {t : ℕ} → Taking f → Some t ≡ end_of (scan 1 g f (part input at))
     → (scan 1 g f (drop at input) ≡ Fine t (wide f)) × (t ≤ length input - at)
 unfolding end_of
-took-some g f input at {t} taking e n =
+took-some g f input at {t} taking e =
     go (scan 1 g f (drop at input)) refl (e ∙ ap (λ (bs : List ℕ). end_of (scan 1 g f bs)) (to_end input at))
   where
-    go : (l : Leaf) → scan 1 g f (drop at input) ≡ l → t ≡ end_of l
+    go : (l : Leaf) → scan 1 g f (drop at input) ≡ l → Some t ≡ end_of l
         → (scan 1 g f (drop at input) ≡ Fine t (wide f)) × (t ≤ length input - at)
-    go (Fine a m) p q =
-        let k = scan-takes g f (drop at input) a m taking p in
-        let size : a ≤ length input - at = subst (λ (b : ℕ). a ≤ b) (length-drop at input) k.1 in
-        (p ∙ ap (λ (b : ℕ). Fine b m) (sym q) ∙ ap (λ (b : ℕ). Fine t b) k.2, subst (λ (b : ℕ). b ≤ length input - at) (sym q) size)
-    go (Bad y j) p q = absurd (n q)
+    go (Ok span) p q =
+        let k = scan-takes g f (drop at input) span.took span.made taking p in
+        let same : span.took ≡ t = cc in
+        (p ∙ (λ i. Fine (same i) (k.2 i)), omega (arith, k.1, length-drop at input, same))
+    go (Err fault) p q = impossible cc
 
--- one that takes none is not
-pub took_none : (g : ℕ) (f : Field) (input : List ℕ) (at : ℕ) {t : ℕ} → Taking f → t ≡ end_of (scan 1 g f (part input at)) → t ≡ 0
-    → Wrong (scan 1 g f (drop at input))
+-- one that does not is not
+pub took_none : (g : ℕ) (f : Field) (input : List ℕ) (at : ℕ) → None ≡ end_of (scan 1 g f (part input at)) → Wrong (scan 1 g f (drop at input))
 unfolding end_of
-took_none g f input at {t} taking e z =
-    go (scan 1 g f (drop at input)) refl (sym (ap (λ (bs : List ℕ). end_of (scan 1 g f bs)) (to_end input at)) ∙ sym e ∙ z)
+took_none g f input at e = go (scan 1 g f (drop at input)) (e ∙ ap (λ (bs : List ℕ). end_of (scan 1 g f bs)) (to_end input at))
   where
-    go : (l : Leaf) → scan 1 g f (drop at input) ≡ l → end_of l ≡ 0 → Wrong l
-    go (Fine a m) p q = let k = (scan-takes g f (drop at input) a m taking p).0 in absurd (omega arith)
-    go (Bad y j) p q = tt
+    go : (l : Leaf) → None ≡ end_of l → Wrong l
+    go (Ok span) q = impossible cc
+    go (Err fault) q = tt
 
 -- ---- a round of the loop that stores
 
 -- a field that stands ends where its scan does
-stands_end : {g : ℕ} {input : List ℕ} {f : Field} {at : ℕ} (s : Stands g input f at) → end_of (scan 1 g f (part input at)) ≡ s.t
+stands_end : {g : ℕ} {input : List ℕ} {f : Field} {at : ℕ} (s : Stands g input f at) → end_of (scan 1 g f (part input at)) ≡ Some s.t
 unfolding end_of
 stands_end {g} {input} {f} {at} s = ap (λ (bs : List ℕ). end_of (scan 1 g f bs)) (to_end input at) ∙ ap end_of s.is
 
-stands-some : {g : ℕ} {input : List ℕ} {f : Field} {at : ℕ} → Taking f → Stands g input f at → 0 < end_of (scan 1 g f (part input at))
-stands-some {g} {input} {f} {at} taking s =
-    subst (λ (n : ℕ). 0 < n) (sym (stands_end s)) (scan-takes g f (drop at input) s.t s.m taking s.is).0
+stands-some : {g : ℕ} {input : List ℕ} {f : Field} {at : ℕ} → Stands g input f at → IsSome (end_of (scan 1 g f (part input at)))
+stands-some {g} {input} {f} {at} s = subst (λ (n : Option ℕ). IsSome n) (sym (stands_end s)) refl
+
+-- one end is the other
+same_end : {a b : ℕ} {o : Option ℕ} → Some a ≡ o → o ≡ Some b → a ≡ b
+same_end p q = cc
 
 module _ (kind : ℕ) {g : ℕ} {input : List ℕ} {n from : ℕ} {first : List ℕ} {base due at to : ℕ} {row : List ℕ}
     (k : Filling g input (group_of kind) n from first base due at to row) (some : 0 < due) where
@@ -76,12 +79,12 @@ module _ (kind : ℕ) {g : ℕ} {input : List ℕ} {n from : ℕ} {first : List 
       omega (arith, k.room, q, suc-mul (due - 1) (widths (group_of kind)))
 
   -- its first field is right
-  pub round_first : 0 < end_of (scan 1 g (group_one kind) (part input at))
-  round_first = stands-some (one-taking kind) (filling_first k some)
+  pub round_first : IsSome (end_of (scan 1 g (group_one kind) (part input at)))
+  round_first = stands-some (filling_first k some)
 
-  module _ {r : ℕ} (er : r ≡ end_of (scan 1 g (group_one kind) (part input at))) where
+  module _ {r : ℕ} (er : Some r ≡ end_of (scan 1 g (group_one kind) (part input at))) where
     first_took_lem : r ≡ (filling_first k some).t
-    first_took_lem = er ∙ stands_end (filling_first k some)
+    first_took_lem = same_end er (stands_end (filling_first k some))
 
     first_is : scan 1 g (group_one kind) (drop at input) ≡ Fine r (filling_first k some).m
     first_is = (filling_first k some).is ∙ ap (λ (t : ℕ). Fine t (filling_first k some).m) (sym first_took_lem)
@@ -93,13 +96,12 @@ module _ (kind : ℕ) {g : ℕ} {input : List ℕ} {n from : ℕ} {first : List 
     stands = filling_second k some first_is
 
     -- and so is its second
-    pub round_second : 0 < end_of (scan 1 1 (group_two kind) (part input (at + r)))
-    round_second =
-        subst (λ (l : Leaf). 0 < end_of l) (two_scan kind g (part input (at + r))) (stands-some (two_taking kind) stands)
+    pub round_second : IsSome (end_of (scan 1 1 (group_two kind) (part input (at + r))))
+    round_second = subst (λ (l : Leaf). IsSome (end_of l)) (two_scan kind g (part input (at + r))) (stands-some stands)
 
-    module _ {u : ℕ} (eu : u ≡ end_of (scan 1 1 (group_two kind) (part input (at + r)))) where
+    module _ {u : ℕ} (eu : Some u ≡ end_of (scan 1 1 (group_two kind) (part input (at + r)))) where
       second_took : u ≡ stands.t
-      second_took = eu ∙ ap end_of (sym (two_scan kind g (part input (at + r)))) ∙ stands_end stands
+      second_took = same_end (eu ∙ ap end_of (sym (two_scan kind g (part input (at + r))))) (stands_end stands)
 
       second_is : scan 1 g (group_two kind) (drop (at + r) input) ≡ Fine u stands.m
       second_is = stands.is ∙ ap (λ (t : ℕ). Fine t stands.m) (sym second_took)

@@ -8,30 +8,31 @@ mod stores;
 
 ghost use Rattle.std.specs.Prelude.{◌≡◌};
 ghost use Rattle.fields.specs.Answers.{left_row};
-ghost use Rattle.instance_items.specs.ReadInstance.{core_kind_of, read_core_instance, kind_of, read_instance};
+ghost use Rattle.instance_items.specs.ReadInstance.{core_kind_of, some_kind, read_core_instance, kind_of, read_instance};
 
 use fields::Read;
-use reading::Tried;
 
-// The kind of the core instances that begin with a byte; 0 is none's.
-fn core_kind_of(first: u8) -> u32
-    ensures { result ≡ core_kind_of first }
+// The kind of the core instances that begin with a byte, if there is one.
+#[tactic(auto, unfolding(crate::specs::ReadInstance::core_kind_of))]
+fn core_kind_of(first: u8) -> Option<u32>
+    ensures { result ≡ some_kind (core_kind_of first) }
 {
     match first {
-        0x00 => 18,
-        0x01 => 20,
-        _ => 0,
+        0x00 => Some(18),
+        0x01 => Some(20),
+        _ => None,
     }
 }
 
-// The kind of the instances that begin with a byte; 0 is none's.
-fn kind_of(first: u8) -> u32
-    ensures { result ≡ kind_of first }
+// The kind of the instances that begin with a byte, if there is one.
+#[tactic(auto, unfolding(crate::specs::ReadInstance::kind_of))]
+fn kind_of(first: u8) -> Option<u32>
+    ensures { result ≡ some_kind (kind_of first) }
 {
     match first {
-        0x00 => 19,
-        0x01 => 21,
-        _ => 0,
+        0x00 => Some(19),
+        0x01 => Some(21),
+        _ => None,
     }
 }
 
@@ -39,13 +40,12 @@ fn kind_of(first: u8) -> u32
 pub fn read_core_instance(input: &[u8], grade: u32, row: &mut [u32]) -> Read
     ensures { left_row result row.new ≡ read_core_instance grade input.now row.old }
 {
-    let kind = core_kind_of(fields::first_of(input));
+    let Some(kind) = core_kind_of(fields::first_of(input)) else {
+        return reading::item_refusal(None, 1, grade, input);
+    };
     if reading::is_within(1, grade, input) {
-        match counted::by_kind(kind, grade, &input[0..], row) {
-            Tried::Item(words, took) => {
-                return Read::Item(words, took);
-            }
-            Tried::Not => {}
+        if let Some(item) = counted::by_kind(kind, grade, input, row) {
+            return Ok(item);
         }
     }
     reading::item_refusal(instances::core_shape_of(kind), 1, grade, input)
@@ -55,13 +55,12 @@ pub fn read_core_instance(input: &[u8], grade: u32, row: &mut [u32]) -> Read
 pub fn read_instance(input: &[u8], grade: u32, row: &mut [u32]) -> Read
     ensures { left_row result row.new ≡ read_instance grade input.now row.old }
 {
-    let kind = kind_of(fields::first_of(input));
+    let Some(kind) = kind_of(fields::first_of(input)) else {
+        return reading::item_refusal(None, 1, grade, input);
+    };
     if reading::is_within(1, grade, input) {
-        match counted::by_kind(kind, grade, &input[0..], row) {
-            Tried::Item(words, took) => {
-                return Read::Item(words, took);
-            }
-            Tried::Not => {}
+        if let Some(item) = counted::by_kind(kind, grade, input, row) {
+            return Ok(item);
         }
     }
     reading::item_refusal(instances::shape_of(kind), 1, grade, input)

@@ -1,5 +1,5 @@
 // The words of a field that is right, stored in a row: it answers how many bytes the field takes.
-ghost use Rattle.std.specs.Prelude.{◌<◌, ◌≤◌, ◌+◌, ◌≡◌, length};
+ghost use Rattle.std.specs.Prelude.{◌<◌, ◌≤◌, ◌+◌, ◌≡◌, IsSome, Some, length};
 ghost use Rattle.std.proofs.lemmas.List.Edits.{sets};
 ghost use Rattle.fields.specs.Limits.{input_bytes};
 ghost use Rattle.fields.specs.Words.{wide};
@@ -49,15 +49,15 @@ fn store_extern(e: Extern, at: usize, row: &mut [u32], to: usize)
 // The first field, which starts at a place: a name, or an extern name.
 pub fn store_one(kind: u32, grade: u32, bs: &[u8], at: usize, row: &mut [u32], to: usize) -> usize
     requires bs_bound { (at + length bs.now ≤ input_bytes) × (to + wide (group_one kind) ≤ length row.old) × (1 ≤ grade) × (grade ≤ 3) }
-    requires nonzero { 0 < end_of (scan 1 grade (group_one kind) bs.now) }
-    ensures { (result ≡ end_of (scan 1 grade (group_one kind) bs.now)) × (row.new ≡ sets row.old to (fill grade (group_one kind) at bs.now)) }
+    requires right { IsSome (end_of (scan 1 grade (group_one kind) bs.now)) }
+    ensures { (Some result ≡ end_of (scan 1 grade (group_one kind) bs.now)) × (row.new ≡ sets row.old to (fill grade (group_one kind) at bs.now)) }
 {
     if kind == 21 {
-        let e = items::extern_name(grade, &bs[0..]);
+        let e = items::extern_name(grade, bs).unwrap();
         store_extern(e, at, row, to);
         return e.took;
     }
-    let n = seen_unsigned(&bs[0..]);
+    let n = seen_unsigned(bs).unwrap();
     row[to] = (at + n.took) as u32;
     row[to + 1] = n.value;
     n.took + (n.value as usize)
@@ -66,10 +66,10 @@ pub fn store_one(kind: u32, grade: u32, bs: &[u8], at: usize, row: &mut [u32], t
 // The second field.
 pub fn store_two(kind: u32, bs: &[u8], row: &mut [u32], to: usize) -> usize
     requires kind_in_bounds { to + wide (group_two kind) ≤ length row.old }
-    requires nonzero { 0 < end_of (scan 1 1 (group_two kind) bs.now) }
-    ensures { (result ≡ end_of (scan 1 1 (group_two kind) bs.now)) × (row.new ≡ sets row.old to (fill 1 (group_two kind) 0 bs.now)) }
+    requires right { IsSome (end_of (scan 1 1 (group_two kind) bs.now)) }
+    ensures { (Some result ≡ end_of (scan 1 1 (group_two kind) bs.now)) × (row.new ≡ sets row.old to (fill 1 (group_two kind) 0 bs.now)) }
 {
-    let two = second(kind, bs);
+    let two = second(kind, bs).unwrap();
     row[to] = two.a;
     if kind == 18 {
         return two.took;

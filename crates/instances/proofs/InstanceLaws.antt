@@ -1,19 +1,23 @@
 -- The kinds of instances: the shape of each, and its elements, as fields, seen and put.
+use Rattle.std.specs.Prelude.{Option, None, Some, IfSome, Ok}
+use Rattle.std.proofs.lemmas.Option.{IfSome_then}
 use Rattle.std.specs.Prelude.{◌≡◌, ℕ, ◌+◌, ◌-◌, ◌<◌, ◌≤◌, List, [], ◌∷◌, ◌++◌, length, take, drop}
 use native.Mathlib.Omega.{arith}
-use mathlib.Core.Path.{refl, ap, ◌∙◌, subst}
+use mathlib.Core.Path.{refl, sym, ap, ◌∙◌, subst}
 use borrow.Author.Tests.{lt-ltb, eq-eqb, ne_eqb}
 use Rattle.numbers.proofs.LebLaws.{size_bounds}
 use Rattle.numbers.specs.Bytes.{left, store}
 use Rattle.numbers.specs.Leb.{unsigned}
 use Rattle.numbers.specs.Numbers.{value_of}
-use Rattle.numbers.specs.declared.bytes.Stored.{Stored}
+use Rattle.numbers.specs.Stored.{Stored}
 use Rattle.fields.specs.declared.Field.{Field}
 use Rattle.fields.specs.declared.Field.TheVariants as field
-use Rattle.fields.specs.declared.Found.TheVariants.{Is, Not}
 use Rattle.fields.specs.Words.{word, wide}
-use Rattle.fields.specs.Shape.{widths}
-use Rattle.fields.specs.Table.{elements, shape_in}
+use Rattle.fields.specs.Shape.{repeated, widths}
+use Rattle.fields.specs.Table.{Line, elements, shape_in}
+use Rattle.fields.specs.declared.Shape.{Shape}
+use Rattle.writing.specs.Row.{measured_row}
+use Rattle.writing.proofs.KindLaws.{measured_as}
 use Rattle.fields.proofs.NearLaws.{first_word, second_word}
 use Rattle.writing.specs.Binary.{name, externname, extern_part, argument, coresortidx, sortidx, bytes}
 use Rattle.writing.specs.Judge.{flaw}
@@ -22,38 +26,43 @@ use Rattle.writing.specs.inside.Rows.{Known, Rights}
 use Rattle.writing.specs.inside.Wrote.{Wrote}
 use Rattle.writing.proofs.FlawLaws.{below_is}
 use Rattle.writing.proofs.TableLaws.{strings}
-use Rattle.writing.proofs.GroupLaws.{Going, Putting, word_at}
+use Rattle.writing.proofs.GroupLaws.{Going, going_start, Putting, putting_start, word_at}
 use Rattle.instances.specs.Table.{coreinstantiatearg, coreinlineexport, instantiatearg, inlineexport}
 use Rattle.instances.specs.Write.{core_shape_of, shape_of}
 use Rattle.instances.specs.inside.Head.{instantiate_shape, export_items_shape}
 use Rattle.writing.proofs.ElementLaws.{pair-element, known_next, name_at-small, name_at-known, both_right, second_room, second_put}
-use Rattle.writing.proofs.ExternLaws.{extern_wrote}
+use Rattle.writing.proofs.ExternLaws.{extern_bound, extern_known, extern_wrote}
 
 -- ---- a line of the table for each kind, and none for any other
 
-pub kind_18 : core_shape_of 18 ≡ Is (instantiate_shape field.Argument)
+pub kind_18 : core_shape_of 18 ≡ Some (instantiate_shape field.Argument)
 unfolding shape_in
 kind_18 = refl
 
-pub kind_20 : core_shape_of 20 ≡ Is (export_items_shape field.Name field.CoreSortIndex)
+pub kind_20 : core_shape_of 20 ≡ Some (export_items_shape field.Name field.CoreSortIndex)
 unfolding shape_in
 kind_20 = refl
 
-pub core_other : {B : Type 0} {k : ℕ} → (B × (k ≡ 18 → ⊥)) × (k ≡ 20 → ⊥) → core_shape_of k ≡ Not
+pub core_other : {B : Type 0} {k : ℕ} → (B × (k ≡ 18 → ⊥)) × (k ≡ 20 → ⊥) → core_shape_of k ≡ None
 unfolding shape_in
 core_other ((b, n), m) = simp (ne_eqb _ _ n, ne_eqb _ _ m)
 
-pub kind_19 : shape_of 19 ≡ Is (instantiate_shape field.SortIndex)
+pub kind_19 : shape_of 19 ≡ Some (instantiate_shape field.SortIndex)
 unfolding shape_in
 kind_19 = refl
 
-pub kind_21 : shape_of 21 ≡ Is (export_items_shape field.ExternName field.SortIndex)
+pub kind_21 : shape_of 21 ≡ Some (export_items_shape field.ExternName field.SortIndex)
 unfolding shape_in
 kind_21 = refl
 
-pub kind_other : {B : Type 0} {k : ℕ} → (B × (k ≡ 19 → ⊥)) × (k ≡ 21 → ⊥) → shape_of k ≡ Not
+pub kind_other : {B : Type 0} {k : ℕ} → (B × (k ≡ 19 → ⊥)) × (k ≡ 21 → ⊥) → shape_of k ≡ None
 unfolding shape_in
 kind_other ((b, n), m) = simp (ne_eqb _ _ n, ne_eqb _ _ m)
+
+-- a size that was found by the shape of a row's kind is that of the row
+pub sized_as : (ls : List Line) {i j k : ℕ} {found : Option Shape} → shape_in ls k ≡ found → i ≡ j → i ≡ k → (row pool : List ℕ) (o : Option ℕ)
+    → IfSome o (λ r. measured_row found row pool ≡ Ok r) → IfSome o (λ r. measured_row (shape_in ls j) row pool ≡ Ok r)
+sized_as ls e f h row pool o s = IfSome_then o s (λ r m. measured_as ls e f h row pool m)
 
 -- ---- elements as fields
 
@@ -141,49 +150,75 @@ module _ (pool row : List ℕ) (at : ℕ) where
     unfolding flaw bytes
     sort_at s = let t = moved field.SortIndex s in record { right = t.right; size = t.size }
 
+-- ---- loops over n elements: n - i are still to be done, first all of them, and then one less
+
+module _ (pool : List ℕ) (g : List Field) (element : List ℕ → List ℕ) (row : List ℕ) (from n base : ℕ) where
+  pub seen_none : (most : ℕ) → Going pool g element most row from n base (n - 0) from base
+  seen_none most =
+      subst (λ d. Going pool g element most row from n base d from base) (omega arith) (going_start pool g element most row from n base)
+
+  pub put_none : (old : List ℕ) → Rights pool (repeated n g) (drop from row) → Putting pool g element row from n old base (n - 0) from base old
+  put_none old r =
+      subst (λ d. Putting pool g element row from n old base d from base old) (omega arith) (putting_start pool g element row from n old base r)
+
+module _ {pool : List ℕ} {g : List Field} {element : List ℕ → List ℕ} {row : List ℕ} {from n base : ℕ} (i : ℕ) where
+  seen_one : {most at made : ℕ} → Going pool g element most row from n base (n - i - 1) at made
+      → Going pool g element most row from n base (n - (i + 1)) at made
+  seen_one {most} {at} {made} k = subst (λ d. Going pool g element most row from n base d at made) (omega arith) k
+
+  pub put_one : {old new : List ℕ} {at to : ℕ} → Putting pool g element row from n old base (n - i - 1) at to new
+      → Putting pool g element row from n old base (n - (i + 1)) at to new
+  put_one {old} {new} {at} {to} k = subst (λ d. Putting pool g element row from n old base d at to new) (omega arith) k
+
 -- ---- elements that are seen
 
-module _ {pool row : List ℕ} {from n base due at made : ℕ} where
-  pub core_argument_next : Going pool (field.Name ∷ field.Argument ∷ []) (coreinstantiatearg pool) 65547 row from n base due at made → 0 < due
-      → length pool ≤ 65536 → {one two : ℕ} → one ≡ right_size pool field.Name (word row at ∷ word row (at + 1) ∷ []) → 0 < one
+-- an extern name of a small pool has few bytes
+pub extern_few : (pool row : List ℕ) (at : ℕ) {one : ℕ} → length pool ≤ 65536
+    → Some one ≡ right_size pool field.ExternName (take (length row - at) (drop at row)) → one ≤ 360471
+extern_few pool row at small e = rw (sym e) at (extern_bound pool (take (length row - at) (drop at row)) small)
+
+module _ {pool row : List ℕ} {from n base at made : ℕ} (i : ℕ) where
+  pub core_argument_next : Going pool (field.Name ∷ field.Argument ∷ []) (coreinstantiatearg pool) 65547 row from n base (n - i) at made → i < n
+      → length pool ≤ 65536 → {one two : ℕ} → Some one ≡ right_size pool field.Name (word row at ∷ word row (at + 1) ∷ [])
       → two ≡ length (unsigned (word row (at + 2)))
-      → Going pool (field.Name ∷ field.Argument ∷ []) (coreinstantiatearg pool) 65547 row from n base (due - 1) (at + 3) (made + (one + (1 + two)))
+      → Going pool (field.Name ∷ field.Argument ∷ []) (coreinstantiatearg pool) 65547 row from n base (n - (i + 1)) (at + 3) (made + (one + (1 + two)))
   unfolding wide widths
-  core_argument_next k h small e p d =
-      known_next field.Name field.Argument pool (core_argument_element pool) k h (name_at-known pool row at e p) (argument_at pool row (at + 2) d) refl
-      (omega (arith, name_at-small pool row at small e, d, (size_bounds 128 (word row (at + 2))).1)) refl
+  core_argument_next k h small e d =
+      seen_one i (known_next field.Name field.Argument pool (core_argument_element pool) k (omega arith) (name_at-known pool row at e) (argument_at pool row (at + 2) d) refl
+      (omega (arith, name_at-small pool row at small e, d, (size_bounds 128 (word row (at + 2))).1)) refl)
 
-  pub core_item_next : Going pool (field.Name ∷ field.CoreSortIndex ∷ []) (coreinlineexport pool) 65547 row from n base due at made → 0 < due
-      → length pool ≤ 65536 → {one two : ℕ} → one ≡ right_size pool field.Name (word row at ∷ word row (at + 1) ∷ []) → 0 < one
+  pub core_item_next : Going pool (field.Name ∷ field.CoreSortIndex ∷ []) (coreinlineexport pool) 65547 row from n base (n - i) at made → i < n
+      → length pool ≤ 65536 → {one two : ℕ} → Some one ≡ right_size pool field.Name (word row at ∷ word row (at + 1) ∷ [])
       → Known pool field.CoreSortIndex (word row (at + 2) ∷ word row (at + 3) ∷ []) two → two ≤ 6
-      → Going pool (field.Name ∷ field.CoreSortIndex ∷ []) (coreinlineexport pool) 65547 row from n base (due - 1) (at + 4) (made + (one + two))
+      → Going pool (field.Name ∷ field.CoreSortIndex ∷ []) (coreinlineexport pool) 65547 row from n base (n - (i + 1)) (at + 4) (made + (one + two))
   unfolding wide widths
-  core_item_next k h small {one} {two} e p s few =
-      let i : at + 3 ≡ at + 2 + 1 = omega arith in
-      known_next field.Name field.CoreSortIndex pool (core_item_element pool) k h (name_at-known pool row at e p)
-      (core_sort_at pool row (at + 2) (subst (λ j. Known pool field.CoreSortIndex (word row (at + 2) ∷ word row j ∷ []) two) i s)) refl
-      (omega (arith, name_at-small pool row at small e)) refl
+  core_item_next k h small {one} {two} e s few =
+      let next : at + 3 ≡ at + 2 + 1 = omega arith in
+      seen_one i (known_next field.Name field.CoreSortIndex pool (core_item_element pool) k (omega arith) (name_at-known pool row at e)
+      (core_sort_at pool row (at + 2) (subst (λ j. Known pool field.CoreSortIndex (word row (at + 2) ∷ word row j ∷ []) two) next s)) refl
+      (omega (arith, name_at-small pool row at small e)) refl)
 
-  pub argument_next : Going pool (field.Name ∷ field.SortIndex ∷ []) (instantiatearg pool) 65548 row from n base due at made → 0 < due
-      → length pool ≤ 65536 → {one two : ℕ} → one ≡ right_size pool field.Name (word row at ∷ word row (at + 1) ∷ []) → 0 < one
+  pub argument_next : Going pool (field.Name ∷ field.SortIndex ∷ []) (instantiatearg pool) 65548 row from n base (n - i) at made → i < n
+      → length pool ≤ 65536 → {one two : ℕ} → Some one ≡ right_size pool field.Name (word row at ∷ word row (at + 1) ∷ [])
       → Known pool field.SortIndex (word row (at + 2) ∷ word row (at + 3) ∷ []) two → two ≤ 7
-      → Going pool (field.Name ∷ field.SortIndex ∷ []) (instantiatearg pool) 65548 row from n base (due - 1) (at + 4) (made + (one + two))
+      → Going pool (field.Name ∷ field.SortIndex ∷ []) (instantiatearg pool) 65548 row from n base (n - (i + 1)) (at + 4) (made + (one + two))
   unfolding wide widths
-  argument_next k h small {one} {two} e p s few =
-      let i : at + 3 ≡ at + 2 + 1 = omega arith in
-      known_next field.Name field.SortIndex pool (argument_element pool) k h (name_at-known pool row at e p)
-      (sort_at pool row (at + 2) (subst (λ j. Known pool field.SortIndex (word row (at + 2) ∷ word row j ∷ []) two) i s)) refl
-      (omega (arith, name_at-small pool row at small e)) refl
+  argument_next k h small {one} {two} e s few =
+      let next : at + 3 ≡ at + 2 + 1 = omega arith in
+      seen_one i (known_next field.Name field.SortIndex pool (argument_element pool) k (omega arith) (name_at-known pool row at e)
+      (sort_at pool row (at + 2) (subst (λ j. Known pool field.SortIndex (word row (at + 2) ∷ word row j ∷ []) two) next s)) refl
+      (omega (arith, name_at-small pool row at small e)) refl)
 
-  pub item_next : Going pool (field.ExternName ∷ field.SortIndex ∷ []) (inlineexport pool) 360478 row from n base due at made → 0 < due
-      → {one two : ℕ} → Known pool field.ExternName (drop at row) one → one ≤ 360471
+  pub item_next : Going pool (field.ExternName ∷ field.SortIndex ∷ []) (inlineexport pool) 360478 row from n base (n - i) at made → i < n
+      → length pool ≤ 65536 → {one two : ℕ} → Some one ≡ right_size pool field.ExternName (take (length row - at) (drop at row))
       → Known pool field.SortIndex (word row (at + 11) ∷ word row (at + 12) ∷ []) two → two ≤ 7
-      → Going pool (field.ExternName ∷ field.SortIndex ∷ []) (inlineexport pool) 360478 row from n base (due - 1) (at + 13) (made + (one + two))
+      → Going pool (field.ExternName ∷ field.SortIndex ∷ []) (inlineexport pool) 360478 row from n base (n - (i + 1)) (at + 13) (made + (one + two))
   unfolding wide widths
-  item_next k h {one} {two} e few s short =
-      let i : at + 12 ≡ at + 11 + 1 = omega arith in
-      known_next field.ExternName field.SortIndex pool (item_element pool) k h e
-      (sort_at pool row (at + 11) (subst (λ j. Known pool field.SortIndex (word row (at + 11) ∷ word row j ∷ []) two) i s)) refl (omega arith) refl
+  item_next k h small {one} {two} e s short =
+      let next : at + 12 ≡ at + 11 + 1 = omega arith in
+      let few = extern_few pool row at small e in
+      seen_one i (known_next field.ExternName field.SortIndex pool (item_element pool) k (omega arith) (extern_known pool row at e)
+      (sort_at pool row (at + 11) (subst (λ j. Known pool field.SortIndex (word row (at + 11) ∷ word row j ∷ []) two) next s)) refl (omega arith) refl)
 
 -- ---- elements that are put: what code puts behind the name is what the element has there
 

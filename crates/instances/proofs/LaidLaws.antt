@@ -1,4 +1,9 @@
 -- A row's head and its elements behind it: what is seen of them makes the row's size, and put one after the other they are its bytes.
+use Rattle.std.specs.Prelude.{Ok}
+use Rattle.std.specs.Prelude.{Some, IfSome}
+use Rattle.std.proofs.lemmas.Option.{IfSome_then}
+use Rattle.fields.specs.declared.Shape.{Shape}
+use Rattle.std.specs.Prelude.{Option}
 use Rattle.std.specs.Prelude.{◌≡◌, ℕ, ◌+◌, ◌*◌, ◌≤◌, List, [], ◌∷◌, ◌++◌, length, drop}
 use native.Mathlib.Omega.{arith}
 use mathlib.Core.Path.{refl, sym, ap, ◌∙◌, subst}
@@ -6,11 +11,8 @@ use mathlib.Core.List.{append_assoc, append-nil}
 use lib.ListN.{length-append}
 use lib.Seq.{sets, length-sets}
 use Rattle.numbers.specs.Leb.{unsigned}
-use Rattle.fields.specs.declared.Answer.TheVariants.{Size}
 use Rattle.fields.specs.declared.Field.{Field}
 use Rattle.fields.specs.declared.Field.TheVariants as field
-use Rattle.fields.specs.declared.Found.{Found}
-use Rattle.fields.specs.declared.Found.TheVariants.{Is}
 use Rattle.fields.specs.Words.{word, wide}
 use Rattle.fields.specs.Shape.{repeated, widths}
 use Rattle.fields.specs.Table.{elements}
@@ -31,14 +33,14 @@ wrote_as {old} {a} {b} {new} {to} {next} e w = subst (λ l. Wrote old to l next 
 
 -- ---- a row that fits
 
-pub record Laid (found : Found) (head : List ℕ) (g : List Field) (w : ℕ) (element : List ℕ → List ℕ) (from n : ℕ) (row pool : List ℕ) (to room : ℕ)
+pub record Laid (found : Option Shape) (head : List ℕ) (g : List Field) (w : ℕ) (element : List ℕ → List ℕ) (from n : ℕ) (row pool : List ℕ) (to room : ℕ)
     : Type 0 where
   pub width : length row ≡ from + n * w
   pub groups : Rights pool (repeated n g) (drop from row)
   pub ends : to + length (head ++ elements n w element (drop from row)) ≤ room
   pub made : row_bytes found pool row ≡ head ++ elements n w element (drop from row)
 
-module _ {found : Found} {head : List ℕ} {g : List Field} {w : ℕ} {element : List ℕ → List ℕ} {from n : ℕ} {row pool : List ℕ} {to : ℕ} where
+module _ {found : Option Shape} {head : List ℕ} {g : List Field} {w : ℕ} {element : List ℕ → List ℕ} {from n : ℕ} {row pool : List ℕ} {to : ℕ} where
   pub head_room : {room : ℕ} → Laid found head g w element from n row pool to room → to + length head ≤ room
   head_room {room} l = room-first head (elements n w element (drop from row)) to room l.ends
 
@@ -56,18 +58,18 @@ module _ {found : Found} {head : List ℕ} {g : List Field} {w : ℕ} {element :
 
 module _ (d : Field) {w : ℕ} (ew : w ≡ widths (field.Name ∷ d ∷ [])) (row pool : List ℕ) {element : List ℕ → List ℕ}
     (same : (ws : List ℕ) → element ws ≡ strings pool (field.Name ∷ d ∷ []) ws) where
-  pub instantiate_known : length pool ≤ 65536 → length row ≤ 16384 → {base r : ℕ} → Headed (instantiate_head row) row 3 (word row 2) w base
-      → Groups pool (field.Name ∷ d ∷ []) element (word row 2) (drop 3 row) base r
-      → measured_row (Is (instantiate_shape d)) row pool ≡ Size r
+  pub instantiate_known : length pool ≤ 65536 → length row ≤ 16384 → {base : ℕ} → Headed (instantiate_head row) row 3 (word row 2) w base → (o : Option ℕ)
+      → IfSome o (λ r. Groups pool (field.Name ∷ d ∷ []) element (word row 2) (drop 3 row) base r)
+      → IfSome o (λ r. measured_row (Some (instantiate_shape d)) row pool ≡ Ok r)
   unfolding wide flaw bytes
-  instantiate_known small short {base} {r} h g =
-      many_known (field.Fixed 0x00) field.Nothing field.Index field.Name d field.Nothing refl refl ew row pool same (λ ws. refl) (λ ws. refl) small short
+  instantiate_known small short h o s =
+      IfSome_then o s (λ r g. many_known (field.Fixed 0x00) field.Nothing field.Index field.Name d field.Nothing refl refl ew row pool same (λ ws. refl) (λ ws. refl) small short
       (omega (arith, h.width)) (index_at pool row 1 refl refl)
       (omega (arith, h.size, length-append (unsigned (word row 1)) (unsigned (word row 2))))
-      g (nothing_at pool (drop (3 + word row 2 * w) row)) (omega arith)
+      g (nothing_at pool (drop (3 + word row 2 * w) row)) (omega arith))
 
-  pub instantiate_laid : {to room : ℕ} → Fits (Is (instantiate_shape d)) row pool to room
-      → Laid (Is (instantiate_shape d)) (instantiate_head row) (field.Name ∷ d ∷ []) w element 3 (word row 2) row pool to room
+  pub instantiate_laid : {to room : ℕ} → Fits (Some (instantiate_shape d)) row pool to room
+      → Laid (Some (instantiate_shape d)) (instantiate_head row) (field.Name ∷ d ∷ []) w element 3 (word row 2) row pool to room
   unfolding wide bytes
   instantiate_laid f =
       let h = many_held (field.Fixed 0x00) field.Nothing field.Index field.Name d field.Nothing refl refl ew row pool same f.measured in
@@ -86,12 +88,14 @@ module _ (d : Field) {w : ℕ} (ew : w ≡ widths (field.Name ∷ d ∷ [])) (ro
 
 module _ (c d : Field) {w : ℕ} (ew : w ≡ widths (c ∷ d ∷ [])) (row pool : List ℕ) {element : List ℕ → List ℕ}
     (same : (ws : List ℕ) → element ws ≡ strings pool (c ∷ d ∷ []) ws) where
-  pub export_items_known : length pool ≤ 65536 → length row ≤ 16384 → {base r : ℕ} → Headed (export_items_head row) row 2 (word row 1) w base
-      → Groups pool (c ∷ d ∷ []) element (word row 1) (drop 2 row) base r → measured_row (Is (export_items_shape c d)) row pool ≡ Size r
-  export_items_known small short h g = counted_known 0x01 c d ew row pool same small short h.width (omega (arith, h.size)) g
+  pub export_items_known : length pool ≤ 65536 → length row ≤ 16384 → {base : ℕ} → Headed (export_items_head row) row 2 (word row 1) w base → (o : Option ℕ)
+      → IfSome o (λ r. Groups pool (c ∷ d ∷ []) element (word row 1) (drop 2 row) base r)
+      → IfSome o (λ r. measured_row (Some (export_items_shape c d)) row pool ≡ Ok r)
+  export_items_known small short h o s =
+      IfSome_then o s (λ r g. counted_known 0x01 c d ew row pool same small short h.width (omega (arith, h.size)) g)
 
-  pub export_items_laid : {to room : ℕ} → Fits (Is (export_items_shape c d)) row pool to room
-      → Laid (Is (export_items_shape c d)) (export_items_head row) (c ∷ d ∷ []) w element 2 (word row 1) row pool to room
+  pub export_items_laid : {to room : ℕ} → Fits (Some (export_items_shape c d)) row pool to room
+      → Laid (Some (export_items_shape c d)) (export_items_head row) (c ∷ d ∷ []) w element 2 (word row 1) row pool to room
   export_items_laid f =
       let h = counted_held 0x01 c d ew row pool same f.measured in
       let u = unsigned (word row 1) in

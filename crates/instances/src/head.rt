@@ -1,5 +1,5 @@
 // What stands before a row's elements: a byte, the index of what is instantiated, and the count.
-ghost use Rattle.std.specs.Prelude.{◌+◌, ◌<◌, ◌≤◌, ◌∷◌, length};
+ghost use Rattle.std.specs.Prelude.{IfSome, ◌+◌, ◌<◌, ◌≤◌, ◌∷◌, length};
 ghost use Rattle.numbers.specs.Leb.{unsigned};
 ghost use Rattle.fields.specs.Words.{word};
 ghost use Rattle.writing.specs.inside.Wrote.{Wrote};
@@ -16,20 +16,20 @@ pub fn put_lead(lead: u8, x: u32, out: &mut [u8], to: usize) -> usize
     to + 1 + stored_size(numbers::put_unsigned(x, to + 1, out))
 }
 
-// 00, an index and a count; 0 where the row is not as long as so many elements of `wide` words make it.
-pub fn instantiate_head_size(row: &[u32], wide: usize) -> usize
+// 00, an index and a count; none where the row is not as long as so many elements of `wide` words make it.
+pub fn instantiate_head_size(row: &[u32], wide: usize) -> Option<usize>
     requires { wide ≤ 16 }
-    ensures headed { 0 < result → Headed (instantiate_head row.now) row.now 3 (word row.now 2) wide result }
-    ensures upper_bound { result ≤ 16 }
+    ensures headed { IfSome result (λ r. Headed (instantiate_head row.now) row.now 3 (word row.now 2) wide r) }
+    ensures upper_bound { IfSome result (λ r. r ≤ 16) }
 {
     if row.len() < 3 {
-        return 0;
+        return None;
     }
     let n = row[2] as usize;
-    if row.len() == 3 + n * wide {
-        return 1 + unsigned_size(row[1]) + unsigned_size(row[2]);
+    if row.len() != 3 + n * wide {
+        return None;
     }
-    0
+    Some(1 + unsigned_size(row[1]) + unsigned_size(row[2]))
 }
 
 pub fn put_instantiate_head(row: &[u32], out: &mut [u8], to: usize) -> usize
@@ -41,18 +41,18 @@ pub fn put_instantiate_head(row: &[u32], out: &mut [u8], to: usize) -> usize
     next + stored_size(numbers::put_unsigned(row[2], next, out))
 }
 
-// 01 and a count; 0 where the row is not as long as so many elements of `wide` words make it.
-pub fn export_items_head_size(row: &[u32], wide: usize) -> usize
+// 01 and a count; none where the row is not as long as so many elements of `wide` words make it.
+pub fn export_items_head_size(row: &[u32], wide: usize) -> Option<usize>
     requires { wide ≤ 16 }
-    ensures headed { 0 < result → Headed (export_items_head row.now) row.now 2 (word row.now 1) wide result }
-    ensures upper_bound { result ≤ 16 }
+    ensures headed { IfSome result (λ r. Headed (export_items_head row.now) row.now 2 (word row.now 1) wide r) }
+    ensures upper_bound { IfSome result (λ r. r ≤ 16) }
 {
     if row.len() < 2 {
-        return 0;
+        return None;
     }
     let n = row[1] as usize;
-    if row.len() == 2 + n * wide {
-        return 1 + unsigned_size(row[1]);
+    if row.len() != 2 + n * wide {
+        return None;
     }
-    0
+    Some(1 + unsigned_size(row[1]))
 }

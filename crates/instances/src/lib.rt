@@ -5,16 +5,16 @@ mod component;
 mod core_rows;
 mod head;
 
-ghost use Rattle.std.specs.Prelude.{◌≡◌};
+ghost use Rattle.std.specs.Prelude.{Some, ◌≡◌};
 ghost use Rattle.fields.specs.Answers.{left};
 ghost use Rattle.instances.specs.Write.{core_shape_of, measured_core_instance, write_core_instance, shape_of, measured_instance, write_instance};
 ghost use Rattle.instances.specs.inside.Head.{instantiate_shape, export_items_shape};
 
-use fields::{Answer, Field, Found, Refusal};
+use fields::{Answer, Fault, Field, Refusal, Shape};
 
 // 00, an index, a count and as many arguments: a name and a field.
-fn instantiate(two: Field) -> Found
-    ensures { result ≡ Found.Is (instantiate_shape two) }
+fn instantiate(two: Field) -> Shape
+    ensures { result ≡ instantiate_shape two }
 {
     fields::many_of(
         Field::Fixed(0x00),
@@ -27,8 +27,8 @@ fn instantiate(two: Field) -> Found
 }
 
 // 01, a count and as many items: two fields.
-fn export_items(one: Field, two: Field) -> Found
-    ensures { result ≡ Found.Is (export_items_shape one two) }
+fn export_items(one: Field, two: Field) -> Shape
+    ensures { result ≡ export_items_shape one two }
 {
     fields::many_of(
         Field::Fixed(0x01),
@@ -41,24 +41,24 @@ fn export_items(one: Field, two: Field) -> Found
 }
 
 // The shape of a kind of core instance: a line of the table for each.
-pub fn core_shape_of(kind: u32) -> Found
+pub fn core_shape_of(kind: u32) -> Option<Shape>
     ensures { result ≡ core_shape_of kind }
 {
     match kind {
-        18 => instantiate(Field::Argument),
-        20 => export_items(Field::Name, Field::CoreSortIndex),
-        _ => Found::Not,
+        18 => Some(instantiate(Field::Argument)),
+        20 => Some(export_items(Field::Name, Field::CoreSortIndex)),
+        _ => None,
     }
 }
 
 // The shape of a kind of instance: a line of the table for each.
-pub fn shape_of(kind: u32) -> Found
+pub fn shape_of(kind: u32) -> Option<Shape>
     ensures { result ≡ shape_of kind }
 {
     match kind {
-        19 => instantiate(Field::SortIndex),
-        21 => export_items(Field::ExternName, Field::SortIndex),
-        _ => Found::Not,
+        19 => Some(instantiate(Field::SortIndex)),
+        21 => Some(export_items(Field::ExternName, Field::SortIndex)),
+        _ => None,
     }
 }
 
@@ -66,9 +66,8 @@ pub fn shape_of(kind: u32) -> Found
 pub fn measure_core(row: &[u32], pool: &[u8]) -> Answer
     ensures { result ≡ measured_core_instance row.now pool.now }
 {
-    let size = core_rows::row_size(row, pool);
-    if 0 < size {
-        return Answer::Size(size);
+    if let Some(size) = core_rows::row_size(row, pool) {
+        return Ok(size);
     }
     writing::measure_row(core_shape_of(fields::kind_of(row)), row, pool)
 }
@@ -77,25 +76,23 @@ pub fn measure_core(row: &[u32], pool: &[u8]) -> Answer
 pub fn write_core(row: &[u32], pool: &[u8], out: &mut [u8], at: usize) -> Answer
     ensures { left result out.new ≡ write_core_instance row.now pool.now out.old at }
 {
-    match measure_core(row, pool) {
-        Answer::Size(size) => {
-            if writing::fits(size, at, out.len()) {
-                core_rows::put_row(row, pool, out, at);
-                return Answer::Size(size);
-            }
-            Answer::Refused(Refusal::Room, size)
-        }
-        Answer::Refused(why, value) => Answer::Refused(why, value),
+    let size = measure_core(row, pool)?;
+    if writing::fits(size, at, out.len()) {
+        core_rows::put_row(row, pool, out, at);
+        return Ok(size);
     }
+    Err(Fault {
+        why: Refusal::Room,
+        value: size,
+    })
 }
 
 // The size of an instance's row, or why it is refused, room apart.
 pub fn measure(row: &[u32], pool: &[u8]) -> Answer
     ensures { result ≡ measured_instance row.now pool.now }
 {
-    let size = component::row_size(row, pool);
-    if 0 < size {
-        return Answer::Size(size);
+    if let Some(size) = component::row_size(row, pool) {
+        return Ok(size);
     }
     writing::measure_row(shape_of(fields::kind_of(row)), row, pool)
 }
@@ -104,14 +101,13 @@ pub fn measure(row: &[u32], pool: &[u8]) -> Answer
 pub fn write(row: &[u32], pool: &[u8], out: &mut [u8], at: usize) -> Answer
     ensures { left result out.new ≡ write_instance row.now pool.now out.old at }
 {
-    match measure(row, pool) {
-        Answer::Size(size) => {
-            if writing::fits(size, at, out.len()) {
-                component::put_row(row, pool, out, at);
-                return Answer::Size(size);
-            }
-            Answer::Refused(Refusal::Room, size)
-        }
-        Answer::Refused(why, value) => Answer::Refused(why, value),
+    let size = measure(row, pool)?;
+    if writing::fits(size, at, out.len()) {
+        component::put_row(row, pool, out, at);
+        return Ok(size);
     }
+    Err(Fault {
+        why: Refusal::Room,
+        value: size,
+    })
 }

@@ -1,4 +1,5 @@
 -- The arms of reading by the first byte: what an item that was read once and stored leaves is what its kind's shape says.
+use Rattle.std.specs.Prelude.{Err, Ok, Option, Some, None, IfSome}
 use Prim.Native.Nat.{ℕ, ◌+◌, ◌≤◌, ◌<◌}
 use native.Mathlib.Omega.{arith}
 use mathlib.Core.Path.{◌≡◌, refl, sym, ap, ◌∙◌}
@@ -7,11 +8,11 @@ use mathlib.Core.List.{List, [], ◌∷◌}
 use borrow.Author.Tests.{lt-ltb, le-ltb, lt-leb, ltb-false, ne_eqb}
 use lib.Dec.{eqb, ltb}
 use lib.ListN.{length, get_or, drop}
+use Rattle.fields.proofs.OutcomeLaws.{fine-same}
 use Rattle.fields.specs.declared.Field.{Field}
 use Rattle.fields.specs.declared.Field.TheVariants as field
-use Rattle.fields.specs.declared.Found.TheVariants.{Is}
-use Rattle.fields.specs.declared.Leaf.{Leaf}
-use Rattle.fields.specs.declared.Leaf.TheVariants.{Fine, Bad}
+use Rattle.fields.specs.Leaf.{Leaf}
+use Rattle.fields.specs.Leaf.{Fine, Bad}
 use Rattle.fields.specs.declared.Shape.{Shape}
 use Rattle.fields.specs.declared.Refusal.{Refusal}
 use Rattle.fields.specs.declared.Refusal.TheVariants as refusal
@@ -24,7 +25,6 @@ use Rattle.reading.specs.Scan.{scan_primitive, scan_either, scan}
 use Rattle.fields.specs.Shape.{seq, widths}
 use Rattle.fields.specs.Table.{two_of, shape_in}
 use Rattle.fields.specs.Walk.{walk}
-use Rattle.reading.specs.declared.Tried.TheVariants as tried
 use Rattle.reading.specs.inside.Steps.{scans, fills, end_of}
 use Rattle.reading.specs.inside.Tried.{left_tried, tried, tried_found}
 use Rattle.reading.specs.Seen.{roomy}
@@ -37,44 +37,46 @@ use Rattle.items.specs.ReadType.{kind_in, kind_of, lead_grade}
 use Rattle.types.specs.Table.{two, many}
 use Rattle.types.specs.Write.{shape_of}
 use Rattle.types.specs.inside.Function.{function_shape}
+use Rattle.numbers.proofs.Impossible.{impossible}
 
 -- ---- an item that was told
 
 -- one that is right has the words of its fields, and one
-told_count : (g : ℕ) (input : List ℕ) (fs : List Field) (at t m : ℕ) → 0 < t → scans g input fs at 1 ≡ Fine t m → m ≡ 1 + widths fs
+told_count : (g : ℕ) (input : List ℕ) (fs : List Field) (at t m : ℕ) → scans g input fs at 1 ≡ Fine t m → m ≡ 1 + widths fs
 unfolding end_of
-told_count g input fs at t m h e =
-    let end : end_of (scans g input fs at 1) ≡ t = ap end_of e in
-    let fine = end_fine g input fs at 1 (rw (end_made g input fs at 0 1, end) h) in
-    let same : Fine t m ≡ Fine (end_of (scans g input fs at 0)) (1 + widths fs) = sym e ∙ fine in
-    cc
+told_count g input fs at t m e =
+    let end : end_of (scans g input fs at 1) ≡ Some t = ap end_of e in
+    let fine = end_fine g input fs at 1 t (end_made g input fs at 0 1 ∙ end) in
+    (fine-same (sym e ∙ fine)).1
 
 module _ (g : ℕ) (input : List ℕ) (fs : List Field) (at : ℕ) (few : widths fs ≤ 4) where
-  pub told_words : (some : 1 ≤ widths fs) (ws : List ℕ) (r : Item) → Told (scans g input fs at 1) ws r
-      → 0 < r.took → (2 ≤ r.words) × (r.words ≤ 5)
-  told_words some ws r k h = go (scans g input fs at 1) refl k
+  pub told_words : (some : 1 ≤ widths fs) (ws : List ℕ) (r : Option Item) → Told (scans g input fs at 1) ws r
+      → IfSome r (λ x. (2 ≤ x.words) × (x.words ≤ 5))
+  told_words some ws r k = go (scans g input fs at 1) refl r k
     where
-      go : (l : Leaf) → scans g input fs at 1 ≡ l → Told l ws r → (2 ≤ r.words) × (r.words ≤ 5)
-      go (Fine t m) e f =
-          let n = told_count g input fs at t m (omega (arith, f.1, h)) e in
+      go : (l : Leaf) → scans g input fs at 1 ≡ l → (o : Option Item) → Told l ws o → IfSome o (λ x. (2 ≤ x.words) × (x.words ≤ 5))
+      go l e None f = tt
+      go (Ok span) e (Some x) f =
+          let n = told_count g input fs at span.took span.made e in
           (omega (arith, f.2, n), omega (arith, f.2, n))
-      go (Bad w j) e f = absurd (omega arith)
+      go (Err fault) e (Some x) f = impossible cc
 
-  pub told_stored : (ws : List ℕ) (r : Item) (kind : ℕ) (row : List ℕ) → Told (scans g input fs at 1) ws r
+  pub told_stored : (ws : List ℕ) (r : Option Item) (kind : ℕ) (row : List ℕ) → Told (scans g input fs at 1) ws r
       → stored kind r row ≡ tried (scans g input fs at 1) (kind ∷ ws) row
   unfolding stored tried roomy
-  told_stored ws r kind row k = go (scans g input fs at 1) refl k
+  told_stored ws r kind row k = go (scans g input fs at 1) refl r k
     where
-      go : (l : Leaf) → scans g input fs at 1 ≡ l → Told l ws r → stored kind r row ≡ tried l (kind ∷ ws) row
-      go (Fine t m) e f =
-          let n = told_count g input fs at t m (omega (arith, f.1, f.0)) e in
-          rw (lt-ltb 0 r.took f.0, f.3, f.1, f.2, le-ltb 16384 m (omega arith)) refl
-      go (Bad w j) e f = rw f refl
+      go : (l : Leaf) → scans g input fs at 1 ≡ l → (o : Option Item) → Told l ws o → stored kind o row ≡ tried l (kind ∷ ws) row
+      go (Ok span) e None f = absurd f
+      go (Ok span) e (Some x) f =
+          let n = told_count g input fs at span.took span.made e in
+          rw (f.3, f.1, f.2, le-ltb 16384 span.made (omega arith)) refl
+      go (Err fault) e o f = rw f refl
 
 -- ---- the shapes of two fields
 
 module _ (lead g b : ℕ) (f h : Field) (input : List ℕ) (some : 0 < length input) (begins : get_or input 0 0 ≡ b) (not-newer : lead ≤ g) where
-  pub pair_arm : Open (f ∷ h ∷ []) → widths (f ∷ h ∷ []) ≤ 4 → (r : Item) (kind : ℕ) (row : List ℕ)
+  pub pair_arm : Open (f ∷ h ∷ []) → widths (f ∷ h ∷ []) ≤ 4 → (r : Option Item) (kind : ℕ) (row : List ℕ)
       → Told (scans g input (f ∷ h ∷ []) 1 1) (fills g input (f ∷ h ∷ []) 1) r
       → stored kind r row ≡ tried (scanned lead g (two b f h) input) (filled kind lead g (two b f h) input) row
   pair_arm o few r kind row k =
@@ -89,7 +91,7 @@ module _ (lead g b : ℕ) (f h : Field) (input : List ℕ) (some : 0 < length in
 -- ---- a primitive, or nothing
 
 module _ (lead g : ℕ) (input : List ℕ) where
-  pub front_arm : (r : Item) (kind : ℕ) (row : List ℕ)
+  pub front_arm : (r : Option Item) (kind : ℕ) (row : List ℕ)
       → Told (scans g input (field.Primitive ∷ field.Nothing ∷ []) 0 1) (fills g input (field.Primitive ∷ field.Nothing ∷ []) 0) r
       → stored kind r row
       ≡ tried (scanned lead g (two_of field.Nothing field.Nothing field.Primitive field.Nothing) input)
@@ -110,7 +112,7 @@ module _ (lead g : ℕ) (input : List ℕ) where
 pub record Arm (b kind lead : ℕ) (s : Shape) : Type 0 where
   pub kind_is : kind_of b ≡ kind
   pub lead_is : lead_grade kind ≡ lead
-  pub shape_is : shape_of kind ≡ Is s
+  pub shape_is : shape_of kind ≡ Some s
 
 module _ {b kind lead : ℕ} {s : Shape} (arm : Arm b kind lead s) {first : ℕ} (key : first ≡ b) where
   pub arm_grade : (g : ℕ) → lead_grade (kind_of first) ≤ g → lead ≤ g
@@ -123,7 +125,7 @@ module _ {b kind lead : ℕ} {s : Shape} (arm : Arm b kind lead s) {first : ℕ}
 -- an item of two fields that was told
 pub two-arm : {b kind lead : ℕ} {f h : Field} → Arm b kind lead (two b f h) → {first : ℕ} → first ≡ b → (g : ℕ) (input : List ℕ)
     → 0 < length input → get_or input 0 0 ≡ first → lead_grade (kind_of first) ≤ g → Open (f ∷ h ∷ []) → widths (f ∷ h ∷ []) ≤ 4
-    → (r : Item) (row : List ℕ) → Told (scans g input (f ∷ h ∷ []) 1 1) (fills g input (f ∷ h ∷ []) 1) r
+    → (r : Option Item) (row : List ℕ) → Told (scans g input (f ∷ h ∷ []) 1 1) (fills g input (f ∷ h ∷ []) 1) r
     → stored kind r row ≡ tried_found (shape_of (kind_of first)) (kind_of first) (lead_grade (kind_of first)) g input row
 two-arm {b} {kind} {lead} {f} {h} arm key g input some begins low o few r row k =
     pair_arm lead g b f h input some (begins ∙ key) (arm_grade arm key g low) o few r kind row k ∙ arm_tried arm key g input row
@@ -231,7 +233,7 @@ async_newer g input some e h = (simp (lt-leb (length input) 0 some, e, le-ltb g 
 
 -- 43 below grade 2
 pub async_not : (g : ℕ) (input row : List ℕ) → 0 < length input → {first : ℕ} → first ≡ 0x43 → get_or input 0 0 ≡ first → g < 2
-    → left_tried tried.Not row ≡ tried_found (shape_of (kind_of first)) (kind_of first) (lead_grade (kind_of first)) g input row
+    → left_tried None row ≡ tried_found (shape_of (kind_of first)) (kind_of first) (lead_grade (kind_of first)) g input row
 unfolding tried walk seq scan scan_either
 async_not g input row some key begins h =
     simp (lt-leb (length input) 0 some, begins ∙ key, lt-ltb g 2 h) refl
@@ -239,7 +241,7 @@ async_not g input row some key begins h =
 
 -- ---- a first byte that is none of these
 
-module _ (g : ℕ) (input row : List ℕ) (some : 0 < length input) (first : ℕ) (begins : get_or input 0 0 ≡ first) (r : Item)
+module _ (g : ℕ) (input row : List ℕ) (some : 0 < length input) (first : ℕ) (begins : get_or input 0 0 ≡ first) (r : Option Item)
     (told : Told (scans g input (field.Primitive ∷ field.Nothing ∷ []) 0 1) (fills g input (field.Primitive ∷ field.Nothing ∷ []) 0) r) where
   -- it is a primitive's
   pub primitive_arm : kind_of first ≡ 0
@@ -253,7 +255,7 @@ module _ (g : ℕ) (input row : List ℕ) (some : 0 < length input) (first : ℕ
   unfolding lead_grade shape_in stored along
   no_arm e w j bad = rw e (rw (none (rw bad at told)) refl)
     where
-      none : r.took ≡ 0 → r.took ≡ 0
+      none : r ≡ None → r ≡ None
       none h = h
 
   -- which of the two, by the tests of `kind_of`

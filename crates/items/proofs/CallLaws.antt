@@ -1,4 +1,8 @@
 -- From what reading by the first byte leaves to what `types::read` answers, within the limits and outside.
+use Rattle.std.specs.Prelude.{None}
+use Rattle.std.specs.Prelude.{Some}
+use Rattle.fields.specs.declared.Shape.{Shape}
+use Rattle.std.specs.Prelude.{Option}
 use Prim.Native.Nat.{ℕ, ◌≤◌, ◌<◌, ◌^◌}
 use native.Mathlib.Omega.{arith}
 use mathlib.Core.Path.{◌≡◌, refl, sym, ap, ◌∙◌, subst}
@@ -10,20 +14,17 @@ use lib.Dec.{eqb, ltb}
 use lib.ListN.{length, get_or}
 use Rattle.fields.specs.declared.Field.{Field}
 use Rattle.fields.specs.declared.Field.TheVariants as field
-use Rattle.fields.specs.declared.Found.{Found}
-use Rattle.fields.specs.declared.Found.TheVariants as found
-use Rattle.fields.specs.declared.Found.TheVariants.{Is}
 use Rattle.fields.specs.declared.Site.{Site}
 use Rattle.fields.specs.declared.Site.TheVariants.{TypeLead}
 use Rattle.fields.specs.Grades as grades
 use Rattle.fields.specs.Grades.{grade_of, fixed_byte}
-use Rattle.fields.specs.declared.Leaf.TheVariants.{Fine, Bad}
-use Rattle.fields.specs.declared.Read.TheVariants as read
+use Rattle.fields.specs.Leaf.{Fine, Bad}
+use Rattle.fields.specs.Read as read
 use Rattle.fields.specs.declared.Refusal.TheVariants as refusal
 use Rattle.fields.specs.Answers.{left_row}
 use Rattle.reading.specs.Read.{read_found, read_item, scanned_found, scanned_item, refusal_of}
-use Rattle.reading.specs.declared.Tried.{Tried}
-use Rattle.reading.specs.declared.Tried.TheVariants.{Item, Not}
+use Rattle.reading.specs.inside.Try.{Tried}
+use Rattle.reading.specs.inside.Try.{Item}
 use Rattle.reading.specs.Seen.{within}
 use Rattle.reading.specs.inside.Tried.{left_tried, tried_found}
 use Rattle.reading.proofs.TriedLaws.{within-limits, call_done, call_not, call_outside, lead_newer}
@@ -54,13 +55,13 @@ lead_is field.CoreSortIndex = inr refl
 lead_is field.SortIndex = inr refl
 
 -- an item whose lead is above the grade is not whole
-pub lead_none : (site : Site) → grade_of site 0 ≡ 1 → (f : Found) (g : ℕ) (input : List ℕ) → 1 ≤ g → g < grades.lead_grade site f → (e q : ℕ)
+pub lead_none : (site : Site) → grade_of site 0 ≡ 1 → (f : Option Shape) (g : ℕ) (input : List ℕ) → 1 ≤ g → g < grades.lead_grade site f → (e q : ℕ)
     → scanned_found f (grades.lead_grade site f) g input ≡ Fine e q → ⊥
-lead_none site base found.Not g input low h e q is = impossible cc
-lead_none site base (Is s) g input low h e q is = go (lead_is s.lead)
+lead_none site base None g input low h e q is = impossible cc
+lead_none site base (Some s) g input low h e q is = go (lead_is s.lead)
   where
     go : ((b : ℕ) × (s.lead ≡ field.Fixed b)) ⊎ (fixed_byte s.lead ≡ 0) → ⊥
-    go (inl (b, p)) = lead_newer (grades.lead_grade site (Is s)) g b s input p h e q is
+    go (inl (b, p)) = lead_newer (grades.lead_grade site (Some s)) g b s input p h e q is
     go (inr z) = let x : g < 1 = subst (λ n. g < n) (ap (grade_of site) z ∙ base) h in absurd (omega (arith, x, low))
 
 newer_none : (k g : ℕ) (input : List ℕ) → 1 ≤ g → g < lead_grade k → (e q : ℕ)
@@ -69,7 +70,7 @@ unfolding lead_grade
 newer_none k g input low h e q is = lead_none TypeLead refl (shape_of k) g input low h e q is
 
 -- a grade below 1
-no_grade : (f : Found) (k lead g : ℕ) (input row : List ℕ) → ltb g 1 ≡ true
+no_grade : (f : Option Shape) (k lead g : ℕ) (input row : List ℕ) → ltb g 1 ≡ true
     → left_row (refusal_of (scanned_item f lead g input)) row ≡ read_item f k lead g input row
 unfolding read_item scanned_item
 no_grade f k lead g input row e = go (ltb (2 ^ 30) (length input)) (ltb g 1) e
@@ -101,35 +102,33 @@ outside k g input row h = go (ltb g 1) refl
 
 -- the call: b is the first byte, k its kind and l the grade of its lead
 module _ (g : ℕ) (input row : List ℕ) {b k l : ℕ} (eb : b ≡ get_or input 0 0) (ek : k ≡ kind_of b) (el : l ≡ lead_grade k) where
-  module _ (h : within l g input ≡ true) {part : List ℕ} (whole : part ≡ input) where
+  module _ (h : within l g input ≡ true) where
     -- what reading by the first byte requires
-    pub part_limits : ((0 < length part) × (length part ≤ 2 ^ 30) × (get_or part 0 0 ≡ b)) × ((1 ≤ g) × (lead_grade (kind_of b) ≤ g))
-    part_limits =
+    pub limits : ((0 < length input) × (length input ≤ 2 ^ 30) × (get_or input 0 0 ≡ b)) × ((1 ≤ g) × (lead_grade (kind_of b) ≤ g))
+    limits =
         let n = within-limits l g input h in
         let low : lead_grade (kind_of b) ≤ g = rw (el, ek) at n.3 in
-        rw whole ((n.4, n.0, sym eb), (n.1, low))
+        ((n.4, n.0, sym eb), (n.1, low))
 
     module _ {x : Tried} (new : List ℕ)
-        (t : left_tried x new ≡ tried_found (shape_of (kind_of b)) (kind_of b) (lead_grade (kind_of b)) g part row) where
+        (t : left_tried x new ≡ tried_found (shape_of (kind_of b)) (kind_of b) (lead_grade (kind_of b)) g input row) where
       same : {y : Tried} → x ≡ y → left_tried y new ≡ tried_found (shape_of (kind_of b)) (kind_of b) (lead_grade (kind_of b)) g input row
-      same i =
-          ap (λ s. left_tried s new) (sym i) ∙ t
-          ∙ ap (λ s. tried_found (shape_of (kind_of b)) (kind_of b) (lead_grade (kind_of b)) g s row) whole
+      same i = ap (λ s. left_tried s new) (sym i) ∙ t
 
-      limits : within (lead_grade (kind_of b)) g input ≡ true
-      limits = rw (el, ek) at h
+      allowed : within (lead_grade (kind_of b)) g input ≡ true
+      allowed = rw (el, ek) at h
 
       -- an item that stands in the row is what the call answers
       pub read_some : (q e : ℕ) → x ≡ Item q e → left_row (read.Item q e) new ≡ read_type g input row
       unfolding read_type
       read_some q e i =
-          rw (← eb) (call_done (shape_of (kind_of b)) (kind_of b) (lead_grade (kind_of b)) g input row limits q e new (same i))
+          rw (← eb) (call_done (shape_of (kind_of b)) (kind_of b) (lead_grade (kind_of b)) g input row allowed q e new (same i))
 
       -- where there is none that has room, the call refuses
-      pub read_none : x ≡ Not → left_row (refusal_of (scanned_item (shape_of k) l g input)) new ≡ read_type g input row
+      pub read_none : x ≡ None → left_row (refusal_of (scanned_item (shape_of k) l g input)) new ≡ read_type g input row
       unfolding read_type
       read_none i =
-          rw (← eb, el, ek) (call_not (shape_of (kind_of b)) (kind_of b) (lead_grade (kind_of b)) g input row limits new (same i))
+          rw (← eb, el, ek) (call_not (shape_of (kind_of b)) (kind_of b) (lead_grade (kind_of b)) g input row allowed new (same i))
 
   -- and so it does outside the limits
   pub read_outside : within l g input ≡ false

@@ -1,23 +1,24 @@
 -- An import read once: what its extern name and its reference say comes to what the shape says, its words are stored in runs that follow
 -- one another, and the call answers what was read, or refuses.
+use Rattle.fields.specs.declared.Shape.{Shape}
+use Rattle.std.specs.Prelude.{Err, Ok, Option, Some, None, option_map}
 use Prim.Native.Nat.{ℕ, ◌+◌, ◌≤◌, ◌<◌, ◌^◌}
 use native.Mathlib.Nat.{zero-add}
 use native.Mathlib.Omega.{arith}
-use mathlib.Core.Path.{◌≡◌, refl, sym, ap, ◌∙◌}
+use mathlib.Core.Path.{◌≡◌, refl, sym, ap, ◌∙◌, subst}
 use mathlib.Core.Bool.{Bool, true, false, cond}
 use mathlib.Core.List.{List, [], ◌∷◌, ◌++◌}
 use lib.Dec.{eqb, ltb}
 use lib.ListN.{length, get_or, drop, set, length-set, length-drop}
 use lib.Seq.{sets, length-sets}
-use borrow.Author.Tests.{lt-ltb, lt-leb, le-leb, ltb-true, ltb-false, eqb-false}
+use borrow.Author.Tests.{lt-leb, le-leb, ltb-false, eqb-false}
 use Rattle.fields.specs.declared.Field.TheVariants as field
-use Rattle.fields.specs.declared.Found.{Found}
-use Rattle.fields.specs.declared.Leaf.{Leaf}
-use Rattle.fields.specs.declared.Leaf.TheVariants.{Fine, Bad}
-use Rattle.fields.specs.declared.Read.TheVariants as read
+use Rattle.fields.specs.Leaf.{Leaf}
+use Rattle.fields.specs.Leaf.{Fine, Bad}
+use Rattle.fields.specs.Read as read
 use Rattle.fields.specs.declared.Refusal.TheVariants as refusal
 use Rattle.fields.specs.Words.{word, wide}
-use Rattle.reading.specs.Fill.{fill, fill_name, fill_extern}
+use Rattle.reading.specs.Fill.{fill, fill_extern}
 use Rattle.fields.specs.Answers.{left_row}
 use Rattle.reading.specs.Read.{read_found, read_item, scanned_found, scanned_item, refusal_of}
 use Rattle.fields.specs.inside.Run.{along, makes}
@@ -25,8 +26,8 @@ use Rattle.reading.specs.Scan.{scan, scan_extern}
 use Rattle.fields.specs.Table.{shape_in}
 use Rattle.fields.specs.Walk.{next, took}
 use Rattle.reading.proofs.FilledLaws.{fill-length}
-use Rattle.reading.specs.declared.Tried.{Tried}
-use Rattle.reading.specs.declared.Tried.TheVariants.{Item, Not}
+use Rattle.reading.specs.inside.Try.{Tried}
+use Rattle.reading.specs.inside.Try.{Item}
 use Rattle.reading.specs.Seen.{within, roomy}
 use Rattle.reading.specs.inside.Tried.{left_tried, tried, tried_found}
 use Rattle.reading.proofs.StepLaws.{scan-takes, fill_at}
@@ -34,7 +35,7 @@ use Rattle.reading.proofs.TriedLaws.{within-limits, call_done, call_not, front_s
 use Rattle.items.specs.declared.import.Three.{Three}
 use Rattle.items.specs.declared.import.Extern.{Extern}
 use Rattle.items.specs.ReadExtern.{slot_words, extern_words, Says, extern_within, value_of_extern, value_of, read_extern, ExternRead}
-use Rattle.items.specs.inside.Import.{three_of, three, ExternTold}
+use Rattle.items.specs.inside.Import.{three_of, three_is, three, ExternTold}
 use Rattle.items.specs.ReadImport.{read_import}
 use Rattle.imports.specs.Write.{shape_of}
 use Rattle.numbers.proofs.Impossible.{impossible}
@@ -67,19 +68,19 @@ import-words row e r p q s = rw (s, q, p)
 
 -- ---- what the fields say
 
--- an extern name that takes bytes is right, and these are its words
-pub extern_some : (g : ℕ) (input : List ℕ) (e : Extern) → ExternTold g input e → 0 < e.took
+-- an extern name that is told is right, and these are its words
+pub extern_some : (g : ℕ) (input : List ℕ) (e : Extern) → ExternTold g input (Some e)
     → (scan 1 g field.ExternName input ≡ Fine e.took 11) × (fill g field.ExternName 0 input ≡ extern_words e)
     × (e.took ≤ length input)
 unfolding scan fill wide
-extern_some g input e x h = go (scan_extern g input) (λ t m. scan-takes g field.ExternName input t m tt) x
+extern_some g input e x = go (scan_extern g input) (λ t m. scan-takes g field.ExternName input t m tt) x
   where
-    go : (l : Leaf) → ((t m : ℕ) → l ≡ Fine t m → (0 < t) × (t ≤ length input) × (m ≡ 11)) → Says l (fill_extern g 0 input) e
+    go : (l : Leaf) → ((t m : ℕ) → l ≡ Fine t m → (0 < t) × (t ≤ length input) × (m ≡ 11)) → Says l (fill_extern g 0 input) (Some e)
         → (l ≡ Fine e.took 11) × (fill_extern g 0 input ≡ extern_words e) × (e.took ≤ length input)
-    go (Fine t m) k x =
-        let q = k t m refl in
+    go (Ok span) k x =
+        let q = k span.took span.made refl in
         ((λ i. Fine (sym x.1 i) (q.2 i)), sym x.2, omega (arith, q.1, x.1))
-    go (Bad w j) k x = absurd (omega (arith, h, x))
+    go (Err fault) k x = impossible cc
 
 -- a list of three words
 three-words : (ws : List ℕ) → length ws ≡ 3 → ws ≡ word ws 0 ∷ word ws 1 ∷ word ws 2 ∷ []
@@ -89,26 +90,25 @@ three-words (x ∷ y ∷ []) e = absurd (omega arith)
 three-words (x ∷ y ∷ z ∷ []) e = refl
 three-words (x ∷ y ∷ z ∷ v ∷ ws) e = absurd (omega arith)
 
--- a reference that takes bytes is right, and these are its words, wherever it stands
-pub three-some : (g at : ℕ) (bs : List ℕ) → 0 < (three g bs).took
-    → (scan 1 g field.Reference bs ≡ Fine (three g bs).took 3)
-    × (fill g field.Reference at bs ≡ (three g bs).a ∷ (three g bs).b ∷ (three g bs).c ∷ []) × ((three g bs).took ≤ length bs)
+-- a reference that is read is right, and these are its words, wherever it stands
+three-some : (g at : ℕ) (bs : List ℕ) (r : Three) → Some r ≡ three g bs
+    → (scan 1 g field.Reference bs ≡ Fine r.took 3) × (fill g field.Reference at bs ≡ r.a ∷ r.b ∷ r.c ∷ []) × (r.took ≤ length bs)
 unfolding three_of wide
-three-some g at bs h = go (scan 1 g field.Reference bs) (λ t m. scan-takes g field.Reference bs t m tt) h
+three-some g at bs r h = go (scan 1 g field.Reference bs) (λ t m. scan-takes g field.Reference bs t m tt) h
   where
     ws : List ℕ
     ws = fill g field.Reference 0 bs
 
-    go : (l : Leaf) → ((t m : ℕ) → l ≡ Fine t m → (0 < t) × (t ≤ length bs) × (m ≡ 3)) → 0 < (three_of l ws).took
-        → (l ≡ Fine (three_of l ws).took 3)
-        × (fill g field.Reference at bs ≡ (three_of l ws).a ∷ (three_of l ws).b ∷ (three_of l ws).c ∷ []) × ((three_of l ws).took ≤ length bs)
-    go (Fine t m) k h =
-        let q = k t m refl in (
-          ap (λ n. Fine t n) q.2,
-          fill_at g field.Reference at bs tt ∙ three-words ws (fill-length g field.Reference 0 bs),
-          q.1,
-        )
-    go (Bad w j) k h = absurd (omega arith)
+    go : (l : Leaf) → ((t m : ℕ) → l ≡ Fine t m → (0 < t) × (t ≤ length bs) × (m ≡ 3)) → Some r ≡ three_of l ws
+        → (l ≡ Fine r.took 3) × (fill g field.Reference at bs ≡ r.a ∷ r.b ∷ r.c ∷ []) × (r.took ≤ length bs)
+    go (Ok span) k h =
+        let q = k span.took span.made refl in
+        let same : three_is span.took (word ws 0) (word ws 1) (word ws 2) ≡ r = cc in
+        subst
+        (λ (x : Three). (Ok span ≡ Fine x.took 3) × (fill g field.Reference at bs ≡ x.a ∷ x.b ∷ x.c ∷ []) × (x.took ≤ length bs))
+        same
+        (ap (λ n. Fine span.took n) q.2, fill_at g field.Reference at bs tt ∙ three-words ws (fill-length g field.Reference 0 bs), q.1)
+    go (Err fault) k h = impossible cc
 
 -- ---- an import of an extern name and a reference
 
@@ -127,76 +127,66 @@ import-tried g input row =
     let f = sym (front_filled 1 g field.ExternName field.Reference input 17) in
     λ i. tried (s i) (f i) row
 
-module _ (g : ℕ) (input row : List ℕ) (e : Extern) (x : ExternTold g input e) where
+module _ (g : ℕ) (input row : List ℕ) where
   -- its extern name is not right
-  pub import_unnamed : e.took ≡ 0 → left_tried Not row ≡ tried_found (shape_of 17) 17 1 g input row
+  pub import_unnamed : ExternTold g input None → left_tried None row ≡ tried_found (shape_of 17) 17 1 g input row
   unfolding along scan tried
-  import_unnamed z =
+  import_unnamed x =
       go (scan_extern g input) x (λ t m. along (scan 1 g) (field.Reference ∷ []) (drop t input) (0 + t) (1 + m))
       ∙ import-tried g input row
     where
-      go : (l : Leaf) → Says l (fill_extern g 0 input) e → (k : ℕ → ℕ → Leaf)
-          → left_tried Not row ≡ tried (next l k 0) (17 ∷ words g input) row
-      go (Fine t m) x k = absurd (omega (arith, x.0, z))
-      go (Bad w j) x k = refl
+      go : (l : Leaf) → Says l (fill_extern g 0 input) None → (k : ℕ → ℕ → Leaf)
+          → left_tried None row ≡ tried (next l k 0) (17 ∷ words g input) row
+      go (Ok span) x k = absurd x
+      go (Err fault) x k = refl
 
-  module _ (some : 0 < e.took) where
+  module _ (e : Extern) (x : ExternTold g input (Some e)) where
     -- past the extern name stands the reference
     past_name : fine g input ≡ along (scan 1 g) (field.Reference ∷ []) (drop e.took input) e.took 12
     unfolding along
     past_name =
         ap (λ l. next l (λ t m. along (scan 1 g) (field.Reference ∷ []) (drop t input) (0 + t) (1 + m)) 0)
-        (extern_some g input e x some).0
+        (extern_some g input e x).0
         ∙ ap (λ n. along (scan 1 g) (field.Reference ∷ []) (drop e.took input) n 12) (zero-add e.took)
 
     -- it is not right
-    pub import_unreferred : (three g (drop e.took input)).took ≡ 0 → left_tried Not row ≡ tried_found (shape_of 17) 17 1 g input row
+    pub import_unreferred : None ≡ three g (drop e.took input) → left_tried None row ≡ tried_found (shape_of 17) 17 1 g input row
     unfolding along tried three_of
     import_unreferred z =
-        go (scan 1 g field.Reference (drop e.took input)) (λ t m. scan-takes g field.Reference (drop e.took input) t m tt) z
-        (λ t m. Fine (e.took + t) (12 + m))
+        go (scan 1 g field.Reference (drop e.took input)) z (λ t m. Fine (e.took + t) (12 + m))
         ∙ ap (λ l. tried l (17 ∷ words g input) row) (sym past_name) ∙ import-tried g input row
       where
-        go : (l : Leaf) → ((t m : ℕ) → l ≡ Fine t m → (0 < t) × (t ≤ length (drop e.took input)) × (m ≡ wide field.Reference))
-            → (three_of l (fill g field.Reference 0 (drop e.took input))).took ≡ 0 → (k : ℕ → ℕ → Leaf)
-            → left_tried Not row ≡ tried (next l k e.took) (17 ∷ words g input) row
-        go (Fine t m) k z f = absurd (omega (arith, (k t m refl).0, z))
-        go (Bad w j) k z f = refl
+        go : (l : Leaf) → None ≡ three_of l (fill g field.Reference 0 (drop e.took input)) → (k : ℕ → ℕ → Leaf)
+            → left_tried None row ≡ tried (next l k e.took) (17 ∷ words g input) row
+        go (Ok span) z f = impossible cc
+        go (Err fault) z f = refl
 
-    module _ (r : Three) (is : r ≡ three g (drop e.took input)) (more : 0 < r.took) where
-      told : 0 < (three g (drop e.took input)).took
-      told = rw (sym is) more
-
+    module _ (r : Three) (is : Some r ≡ three g (drop e.took input)) where
       -- both take bytes of the input
       pub import_inside : e.took + r.took ≤ length input
       import_inside =
-          let q : r.took ≤ length (drop e.took input) = rw is (three-some g 0 (drop e.took input) told).2 in
-          omega (arith, q, (extern_some g input e x some).2, length-drop e.took input)
+          omega (arith, (three-some g 0 (drop e.took input) r is).2, (extern_some g input e x).2, length-drop e.took input)
 
       -- an import has 15 words
       fine_both : fine g input ≡ Fine (e.took + r.took) 15
       unfolding along
-      fine_both =
-          past_name
-          ∙ ap (λ l. next l (λ t m. Fine (e.took + t) (12 + m)) e.took) (three-some g 0 (drop e.took input) told).0
-          ∙ ap (λ s. Fine (e.took + s.took) 15) (sym is)
+      fine_both = past_name ∙ ap (λ l. next l (λ t m. Fine (e.took + t) (12 + m)) e.took) (three-some g 0 (drop e.took input) r is).0
 
       words_both : words g input ≡ extern_words e ++ (r.a ∷ r.b ∷ r.c ∷ [])
       unfolding makes
       words_both =
-          let n = extern_some g input e x some in
+          let n = extern_some g input e x in
           ap (λ l. fill g field.ExternName 0 input ++ (fill g field.Reference (0 + took l) (drop (took l) input) ++ [])) n.0
           ∙ ap (λ k. fill g field.ExternName 0 input ++ (fill g field.Reference k (drop e.took input) ++ [])) (zero-add e.took)
           ∙ ap (λ ws. ws ++ (fill g field.Reference e.took (drop e.took input) ++ [])) n.1
-          ∙ ap (λ ws. extern_words e ++ (ws ++ [])) (three-some g e.took (drop e.took input) told).1
-          ∙ ap (λ s. extern_words e ++ (s.a ∷ s.b ∷ s.c ∷ [])) (sym is)
+          ∙ ap (λ ws. extern_words e ++ (ws ++ [])) (three-some g e.took (drop e.took input) r is).1
 
       both : tried (Fine (e.took + r.took) 15) (17 ∷ (extern_words e ++ (r.a ∷ r.b ∷ r.c ∷ []))) row
           ≡ tried_found (shape_of 17) 17 1 g input row
       both = (λ i. tried (sym fine_both i) (17 ∷ sym words_both i) row) ∙ import-tried g input row
 
       -- they have no room
-      pub import_wide : length row < 15 → left_tried Not row ≡ tried_found (shape_of 17) 17 1 g input row
+      pub import_wide : length row < 15 → left_tried None row ≡ tried_found (shape_of 17) 17 1 g input row
       unfolding tried roomy
       import_wide h = rw (lt-leb 15 (length row) h) at both
 
@@ -212,7 +202,7 @@ not_true : {P : Type 0} → false ≡ true → P
 not_true e = impossible cc
 
 -- outside the limits, for a lead of grade 1
-pub call_outside-one : (f : Found) (kind g : ℕ) (input row : List ℕ) → within 1 g input ≡ false
+pub call_outside-one : (f : Option Shape) (kind g : ℕ) (input row : List ℕ) → within 1 g input ≡ false
     → left_row (refusal_of (scanned_item f 1 g input)) row ≡ read_item f kind 1 g input row
 unfolding within read_item scanned_item
 call_outside-one f kind g input row h =
@@ -239,15 +229,14 @@ call_outside-one f kind g input row h =
         absurd (eqb-false (length input) 0 es (omega arith))
 
 module _ (g : ℕ) (input row : List ℕ) where
-  module _ (h : within 1 g input ≡ true) {part : List ℕ} (whole : part ≡ input) where
+  module _ (h : within 1 g input ≡ true) where
     -- what reading once requires
-    pub part_limits : (0 < length part) × (length part ≤ 2 ^ 30) × (1 ≤ g) × (g ≤ 3)
-    part_limits = let k = within-limits 1 g input h in rw whole (k.4, k.0, k.1, k.2)
+    pub limits : (0 < length input) × (length input ≤ 2 ^ 30) × (1 ≤ g) × (g ≤ 3)
+    limits = let k = within-limits 1 g input h in (k.4, k.0, k.1, k.2)
 
-    module _ {x : Tried} (new : List ℕ) (t : left_tried x new ≡ tried_found (shape_of 17) 17 1 g part row) where
+    module _ {x : Tried} (new : List ℕ) (t : left_tried x new ≡ tried_found (shape_of 17) 17 1 g input row) where
       same : {y : Tried} → x ≡ y → left_tried y new ≡ tried_found (shape_of 17) 17 1 g input row
-      same i =
-          ap (λ s. left_tried s new) (sym i) ∙ t ∙ ap (λ s. tried_found (shape_of 17) 17 1 g s row) whole
+      same i = ap (λ s. left_tried s new) (sym i) ∙ t
 
       -- an import that stands in the row is what the call answers
       pub read_some : (q e : ℕ) → x ≡ Item q e → left_row (read.Item q e) new ≡ read_import g input row
@@ -255,7 +244,7 @@ module _ (g : ℕ) (input row : List ℕ) where
       read_some q e i = call_done (shape_of 17) 17 1 g input row h q e new (same i)
 
       -- where there is none that has room, the call refuses
-      pub read_none : x ≡ Not → left_row (refusal_of (scanned_item (shape_of 17) 1 g input)) new ≡ read_import g input row
+      pub read_none : x ≡ None → left_row (refusal_of (scanned_item (shape_of 17) 1 g input)) new ≡ read_import g input row
       unfolding read_import
       read_none i = call_not (shape_of 17) 17 1 g input row h new (same i)
 
@@ -267,35 +256,43 @@ module _ (g : ℕ) (input row : List ℕ) where
 
 -- ---- an extern name by value
 
-pub extern_inside_lem : (g : ℕ) (input : List ℕ) (e : Extern) → within 1 g input ≡ true → ExternTold g input e → ExternRead g input e
+pub extern_inside_lem : (g : ℕ) (input : List ℕ) (e : Option Extern) → within 1 g input ≡ true → ExternTold g input e → ExternRead g input e
 unfolding extern_within
 extern_inside_lem g input e h x = rw h x
 
-pub extern_outside : (g : ℕ) (input : List ℕ) (e : Extern) → within 1 g input ≡ false → e.took ≡ 0 → ExternRead g input e
+pub extern_outside : (g : ℕ) (input : List ℕ) → within 1 g input ≡ false → ExternRead g input None
 unfolding extern_within
-extern_outside g input e h x = rw h x
+extern_outside g input h = rw h refl
+
+-- one that is right takes bytes
+extern_takes : (g : ℕ) (input : List ℕ) (t m : ℕ) → extern_within g input ≡ Fine t m → 0 < t
+unfolding extern_within scan
+extern_takes g input t m e = go (within 1 g input) e
+  where
+    go : (b : Bool) → cond b (scan_extern g input) (Bad refusal.Limit 0) ≡ Fine t m → 0 < t
+    go true e = (scan-takes g field.ExternName input t m tt e).0
+    go false e = impossible cc
 
 -- what is told of an extern name, and its value
-says-value : (l : Leaf) (ws : List ℕ) (r : Extern) → Says l ws r → value_of_extern r ≡ value_of l ws
-says-value (Fine t m) ws r h = simp (lt-ltb 0 r.took h.0) (λ i. h.1 i ∷ h.2 i)
-says-value (Bad w j) ws r h = rw h refl
+says-value : (l : Leaf) (ws : List ℕ) (r : Option Extern) → Says l ws r → option_map value_of_extern r ≡ value_of l ws
+says-value (Ok span) ws (Some e) h = λ i. Some (h.1 i ∷ h.2 i)
+says-value (Ok span) ws None h = absurd h
+says-value (Err fault) ws r h = ap (option_map value_of_extern) h
 
-value_says : (l : Leaf) (ws : List ℕ) (r : Extern) → 1 ≤ length ws → value_of_extern r ≡ value_of l ws → Says l ws r
-value_says (Fine t m) ws r some e = go (ltb 0 r.took) refl e
-  where
-    go : (b : Bool) → ltb 0 r.took ≡ b → cond b (r.took ∷ extern_words r) (0 ∷ []) ≡ t ∷ ws → Says (Fine t m) ws r
-    go true p e = (ltb-true 0 r.took p, ap (λ l. get_or l 0 0) e, ap (λ l. drop 1 l) e)
-    go false p e = absurd (omega (arith, ap length e, some))
-value_says (Bad w j) ws r some e = go (ltb 0 r.took) refl e
-  where
-    go : (b : Bool) → ltb 0 r.took ≡ b → cond b (r.took ∷ extern_words r) (0 ∷ []) ≡ 0 ∷ [] → r.took ≡ 0
-    go true p e = absurd (omega (arith, ap length e))
-    go false p e = let n = ltb-false 0 r.took p in omega (arith, n)
+value_says : (l : Leaf) (ws : List ℕ) (r : Option Extern) → ((t m : ℕ) → l ≡ Fine t m → 0 < t)
+    → option_map value_of_extern r ≡ value_of l ws → Says l ws r
+value_says (Ok span) ws (Some e) some q =
+    let same : e.took ∷ extern_words e ≡ span.took ∷ ws = cc in
+    let size : e.took ≡ span.took = ap (λ l. get_or l 0 0) same in
+    (omega (arith, some span.took span.made refl, size), size, ap (λ l. drop 1 l) same)
+value_says (Ok span) ws None some q = impossible cc
+value_says (Err fault) ws (Some e) some q = impossible cc
+value_says (Err fault) ws None some q = refl
 
-pub read_value : (g : ℕ) (input : List ℕ) (r : Extern) → ExternRead g input r → value_of_extern r ≡ read_extern g input
+pub read_value : (g : ℕ) (input : List ℕ) (r : Option Extern) → ExternRead g input r → option_map value_of_extern r ≡ read_extern g input
 unfolding read_extern
 read_value g input r h = says-value (extern_within g input) (fill_extern g 0 input) r h
 
-pub read_says : (g : ℕ) (input : List ℕ) (r : Extern) → value_of_extern r ≡ read_extern g input → ExternRead g input r
-unfolding read_extern fill_extern fill_name
-read_says g input r e = value_says (extern_within g input) (fill_extern g 0 input) r (omega arith) e
+pub read_says : (g : ℕ) (input : List ℕ) (r : Option Extern) → option_map value_of_extern r ≡ read_extern g input → ExternRead g input r
+unfolding read_extern
+read_says g input r e = value_says (extern_within g input) (fill_extern g 0 input) r (extern_takes g input) e

@@ -1,5 +1,6 @@
 -- Groups whose words straight code stores: what is seen of a name, of a V and of an O with 00 behind it that are right, and the loop
 -- past them; and the groups of a kind.
+use Rattle.std.specs.Prelude.{Err, Ok, Some, is_some, IsSome}
 use Prim.Native.Nat.{ℕ, suc, ◌+◌, ◌-◌, ◌*◌, ◌≤◌, ◌<◌}
 use native.Mathlib.Nat.{suc-mul}
 use native.Mathlib.Omega.{arith}
@@ -7,7 +8,7 @@ use mathlib.Core.Path.{◌≡◌, refl, sym, ap, ◌∙◌, subst}
 use mathlib.Core.Bool.{Bool, true, false, cond}
 use mathlib.Core.List.{List, [], ◌∷◌, ◌++◌}
 use lib.Dec.{eqb, leb}
-use lib.ListN.{length, take, drop, set}
+use lib.ListN.{length, take, drop, set, length-drop}
 use lib.Seq.{sets}
 use borrow.Author.Tests.{ne_eqb}
 use Rattle.numbers.specs.declared.leb.Number.{Number}
@@ -15,10 +16,11 @@ use Rattle.numbers.specs.Leb.{take_unsigned}
 use Rattle.numbers.specs.Seen.{seen, short_signed}
 use Rattle.numbers.proofs.BytesLaws.{to_end}
 use Rattle.numbers.proofs.SeenLaws.{short-some}
+use Rattle.fields.proofs.OutcomeLaws.{fine-same}
 use Rattle.fields.specs.declared.Field.{Field}
 use Rattle.fields.specs.declared.Field.TheVariants as field
-use Rattle.fields.specs.declared.Leaf.{Leaf}
-use Rattle.fields.specs.declared.Leaf.TheVariants.{Fine, Bad}
+use Rattle.fields.specs.Leaf.{Leaf}
+use Rattle.fields.specs.Leaf.{Fine, Bad}
 use Rattle.fields.specs.declared.Refusal.TheVariants.{Code}
 use Rattle.reading.specs.Fill.{fill}
 use Rattle.fields.specs.Words.{wide}
@@ -27,8 +29,8 @@ use Rattle.fields.specs.Shape.{repeated, widths}
 use Rattle.reading.specs.declared.Pair.{Pair}
 use Rattle.reading.specs.Seen.{pair, pair_of, pair_is}
 use Rattle.reading.specs.inside.Steps.{scans, fills, end_of}
-use Rattle.reading.proofs.FillLaws.{Stands, Filling, filling_as, filling_second, filling_next, filling_alone, set-two, set_four, name_words}
-use Rattle.reading.proofs.StepLaws.{Taking, Still, scan-takes, pair-some, fill_at}
+use Rattle.reading.proofs.FillLaws.{Stands, Filling, filling_start, filling_as, filling_second, filling_next, filling_alone, set-two, set_four, name_seen, name_words}
+use Rattle.reading.proofs.StepLaws.{Still, pair-some, fill_at}
 use Rattle.reading.proofs.ValueLaws.{value-index}
 use Rattle.items.specs.inside.Group.{group_one, group_two, group_of}
 use Rattle.numbers.proofs.Impossible.{impossible}
@@ -42,18 +44,23 @@ pub record Named (g : ℕ) (input : List ℕ) (at : ℕ) (r : Number) : Type 0 w
   pub is : scan 1 g field.Name (drop at input) ≡ Fine (r.took + r.value) made
   pub words : fill g field.Name at (drop at input) ≡ (at + r.took) ∷ r.value ∷ []
 
+-- what is seen of a length
+pub length_seen : {g : ℕ} {input : List ℕ} {at : ℕ} → Stands g input field.Name at
+    → IsSome (seen (take_unsigned (take (length input - at) (drop at input))))
+length_seen {g} {input} {at} s =
+    subst (λ (l : List ℕ). IsSome (seen (take_unsigned l))) (sym (to_end input at)) (name_seen g (drop at input) s.t s.m s.is)
+
 pub named : {g : ℕ} {input : List ℕ} {at : ℕ} {r : Number} → Stands g input field.Name at
-    → r ≡ seen (take_unsigned (take (length input - at) (drop at input))) → Named g input at r
+    → Some r ≡ seen (take_unsigned (take (length input - at) (drop at input))) → Named g input at r
 named {g} {input} {at} {r} s e =
-    let w = name_words g at (drop at input) s.t s.m s.is in
-    let same : seen (take_unsigned (drop at input)) ≡ r = sym (e ∙ ap (λ (l : List ℕ). seen (take_unsigned l)) (to_end input at)) in
-    subst (λ (x : Number). Named g input at x) same
-    (record {
+    let same = sym (e ∙ ap (λ (l : List ℕ). seen (take_unsigned l)) (to_end input at)) in
+    let w = name_words g at (drop at input) s.t s.m s.is r same in
+    record {
       made = s.m;
       ends = omega (arith, s.ends, w.3);
       is = s.is ∙ ap (λ t. Fine t s.m) w.3;
       words = w.4;
-    })
+    }
 
 -- a field of two words at `at`, read as v
 pub record Paired (g : ℕ) (input : List ℕ) (f : Field) (at : ℕ) (v : Pair) : Type 0 where
@@ -62,36 +69,35 @@ pub record Paired (g : ℕ) (input : List ℕ) (f : Field) (at : ℕ) (v : Pair)
   pub is : scan 1 g f (drop at input) ≡ Fine v.took made
   pub words : fill g f at (drop at input) ≡ v.a ∷ v.b ∷ []
 
--- the pair of a field that is right has its bytes
-pair_fine : (g : ℕ) (f : Field) (bs : List ℕ) (t m : ℕ) → scan 1 g f bs ≡ Fine t m → (pair g f bs).took ≡ t
+-- a field that is right is read
+pair_fine : (g : ℕ) (f : Field) (bs : List ℕ) (t m : ℕ) → scan 1 g f bs ≡ Fine t m → IsSome (pair g f bs)
 unfolding pair_of
-pair_fine g f bs t m e = ap (λ (l : Leaf). (pair_of l (fill g f 0 bs)).took) e
+pair_fine g f bs t m e = ap (λ (l : Leaf). is_some (pair_of l (fill g f 0 bs))) e
 
-pub paired : {g : ℕ} {input : List ℕ} {f : Field} {at : ℕ} {v : Pair} → Taking f → Still f → wide f ≡ 2 → Stands g input f at
-    → v ≡ pair g f (take (length input - at) (drop at input)) → Paired g input f at v
-paired {g} {input} {f} {at} {v} taking still w s e =
+pub pair_seen : {g : ℕ} {input : List ℕ} {f : Field} {at : ℕ} → Stands g input f at
+    → IsSome (pair g f (take (length input - at) (drop at input)))
+pair_seen {g} {input} {f} {at} s =
+    subst (λ (l : List ℕ). IsSome (pair g f l)) (sym (to_end input at)) (pair_fine g f (drop at input) s.t s.m s.is)
+
+paired : {g : ℕ} {input : List ℕ} {f : Field} {at : ℕ} {v : Pair} → Still f → wide f ≡ 2 → at ≤ length input
+    → Some v ≡ pair g f (take (length input - at) (drop at input)) → Paired g input f at v
+paired {g} {input} {f} {at} {v} still w inside e =
     let bs = drop at input in
-    let took : (pair g f bs).took ≡ s.t = pair_fine g f bs s.t s.m s.is in
-    let some : 0 < (pair g f bs).took = omega (arith, took, (scan-takes g f bs s.t s.m taking s.is).0) in
-    let k = pair-some g f bs w some in
-    let same : pair g f bs ≡ v = sym (e ∙ ap (λ (l : List ℕ). pair g f l) (to_end input at)) in
-    subst (λ (x : Pair). Paired g input f at x) same
-    (record { made = 2; ends = omega (arith, s.ends, took); is = k.0; words = fill_at g f at bs still ∙ k.1 })
+    let k = pair-some g f bs w v (sym (e ∙ ap (λ (l : List ℕ). pair g f l) (to_end input at))) in
+    record { made = 2; ends = omega (arith, k.2, inside, length-drop at input); is = k.0; words = fill_at g f at bs still ∙ k.1 }
 
 -- a V
-pub value-paired : {g : ℕ} {input : List ℕ} {at : ℕ} {v : Pair} → Stands g input field.Value at
-    → v ≡ pair g field.Value (take (length input - at) (drop at input)) → Paired g input field.Value at v
+pub value-paired : {g : ℕ} {input : List ℕ} {at : ℕ} {v : Pair} → at ≤ length input
+    → Some v ≡ pair g field.Value (take (length input - at) (drop at input)) → Paired g input field.Value at v
 unfolding wide
-value-paired s e = paired tt tt refl s e
+value-paired h e = paired tt refl h e
 
 -- a V that is a short index
-pub short-paired : {g : ℕ} {input : List ℕ} {at : ℕ} {x : Number} → Stands g input field.Value at
-    → x ≡ short_signed (take (length input - at) (drop at input)) → 0 < x.took
-    → Paired g input field.Value at (pair_is x.took 1 x.value)
-short-paired {g} {input} {at} {x} s e h =
+pub short-paired : {g : ℕ} {input : List ℕ} {at : ℕ} {x : Number} → at ≤ length input
+    → Some x ≡ short_signed (take (length input - at) (drop at input)) → Paired g input field.Value at (pair_is x.took 1 x.value)
+short-paired {g} {input} {at} {x} h e =
     let part = take (length input - at) (drop at input) in
-    let some : 0 < (short_signed part).took = subst (λ (y : Number). 0 < y.took) e h in
-    value-paired s (ap (λ (y : Number). pair_is y.took 1 y.value) e ∙ value-index g part _ _ (short-some part some).0)
+    value-paired h (value-index g part x.value x.took (short-some part x (sym e)).0)
 
 -- an O with 00 behind it, whose O is read as v
 pub record Closed (g : ℕ) (input : List ℕ) (at : ℕ) (v : Pair) : Type 0 where
@@ -107,37 +113,58 @@ record Before (l : Leaf) (t m : ℕ) : Type 0 where
   more : t ≡ u + 1
 
 before-zero : (bs : List ℕ) (l : Leaf) (t m : ℕ) → then_zero bs l ≡ Fine t m → Before l t m
-before-zero bs (Fine u k) t m e = go (leb (length bs) u) (eqb (byte bs u) 0) e
+before-zero bs (Ok span) t m e = go (leb (length bs) span.took) (eqb (byte bs span.took) 0) e
   where
-    go : (p q : Bool) → cond p (cut bs) (cond q (Fine (u + 1) k) (Bad Code u)) ≡ Fine t m → Before (Fine u k) t m
+    go : (p q : Bool) → cond p (cut bs) (cond q (Fine (span.took + 1) span.made) (Bad Code span.took)) ≡ Fine t m → Before (Fine span.took span.made) t m
     go true q e = impossible cc
     go false true e =
-        let a : u + 1 ≡ t = cc in
-        let b : k ≡ m = cc in
-        record { u = u; is = ap (λ j. Fine u j) b; more = sym a }
+        let same = fine-same e in
+        record { u = span.took; is = ap (λ j. Fine span.took j) same.1; more = sym same.0 }
     go false false e = impossible cc
-before-zero bs (Bad w j) t m e = impossible cc
+before-zero bs (Err fault) t m e = impossible cc
 
-pub closed : {g : ℕ} {input : List ℕ} {at : ℕ} {v : Pair} → Stands g input field.OptionalThenZero at
-    → v ≡ pair g field.Optional (take (length input - at) (drop at input)) → Closed g input at v
-unfolding scan fill wide end_of
-closed {g} {input} {at} {v} s e =
-    let bs = drop at input in
-    let o = before-zero bs (scan_optional g bs) s.t s.m s.is in
-    let fits : o.u ≤ length bs = omega (arith, o.more, s.within) in
-    let inside : at + o.u ≤ length input = omega (arith, o.more, s.ends) in
-    let there : Stands g input field.Optional at =
-    record { t = o.u; m = s.m; is = o.is; within = fits; ends = inside } in
-    let p : Paired g input field.Optional at v = paired tt tt refl there e in
-    let took : o.u ≡ v.took = ap end_of (sym o.is ∙ p.is) in
-    record {
-      made = s.m;
-      ends = omega (arith, s.ends, o.more, took);
-      is = s.is ∙ ap (λ t. Fine t s.m) (o.more ∙ ap (λ j. j + 1) took);
-      words = p.words;
-    }
+-- the O before it
+module _ {g : ℕ} {input : List ℕ} {at : ℕ} (s : Stands g input field.OptionalThenZero at) where
+  opened : Before (scan 1 g field.Optional (drop at input)) s.t s.m
+  unfolding scan
+  opened = before-zero (drop at input) (scan_optional g (drop at input)) s.t s.m s.is
 
--- ---- the loop
+  optional_stands : Stands g input field.Optional at
+  optional_stands =
+      let o = opened in
+      record { t = o.u; m = s.m; is = o.is; within = omega (arith, o.more, s.within); ends = omega (arith, o.more, s.ends) }
+
+  pub optional_seen : IsSome (pair g field.Optional (take (length input - at) (drop at input)))
+  optional_seen = pair_seen optional_stands
+
+  pub closed : {v : Pair} → at ≤ length input → Some v ≡ pair g field.Optional (take (length input - at) (drop at input))
+      → Closed g input at v
+  unfolding fill wide
+  closed {v} inside e =
+      let o = opened in
+      let p : Paired g input field.Optional at v = paired tt refl inside e in
+      let took : o.u ≡ v.took = (fine-same (sym o.is ∙ p.is)).0 in
+      record {
+        made = s.m;
+        ends = omega (arith, s.ends, o.more, took);
+        is = s.is ∙ ap (λ t. Fine t s.m) (o.more ∙ ap (λ j. j + 1) took);
+        words = p.words;
+      }
+
+-- ---- the loop, i of its groups stored
+
+module _ {g : ℕ} {input : List ℕ} {gs : List Field} {n from : ℕ} {first : List ℕ} {base : ℕ} where
+  pub filling_from : from ≤ length input → base + n * widths gs ≤ length first → IsSome (end_of (scans g input (repeated n gs) from 0))
+      → Filling g input gs n from first base (n - 0) from base first
+  filling_from h b r =
+      let same : n ≡ n - 0 = omega arith in
+      subst (λ k. Filling g input gs n from first base k from base first) same (filling_start h b r)
+
+  pub filling_on : (i : ℕ) {at to : ℕ} {row : List ℕ} → Filling g input gs n from first base (n - i - 1) at to row
+      → Filling g input gs n from first base (n - (i + 1)) at to row
+  filling_on i {at} {to} {row} k =
+      let same : n - i - 1 ≡ n - (i + 1) = omega arith in
+      subst (λ j. Filling g input gs n from first base j at to row) same k
 
 -- the next group has room
 pub room_of : {g : ℕ} {input : List ℕ} {gs : List Field} {n from : ℕ} {first : List ℕ} {base due at to : ℕ} {row : List ℕ}
@@ -254,9 +281,9 @@ group-labels kind a b c = simp (ne_eqb kind 1 a, ne_eqb kind 2 b, ne_eqb kind 6 
 pub own_room : (n w size : ℕ) {gs hs : List Field} → gs ≡ hs → widths hs ≡ w → 2 + n * widths gs ≤ size → 2 + n * w ≤ size
 own_room n w size e wd h = subst (λ k. 2 + n * k ≤ size) (ap (λ (l : List Field). widths l) e ∙ wd) h
 
-pub own_right : (g : ℕ) (input : List ℕ) (n from : ℕ) {gs hs : List Field} → gs ≡ hs → 0 < end_of (scans g input (repeated n gs) from 0)
-    → 0 < end_of (scans g input (repeated n hs) from 0)
-own_right g input n from e h = subst (λ (l : List Field). 0 < end_of (scans g input (repeated n l) from 0)) e h
+pub own_right : (g : ℕ) (input : List ℕ) (n from : ℕ) {gs hs : List Field} → gs ≡ hs
+    → IsSome (end_of (scans g input (repeated n gs) from 0)) → IsSome (end_of (scans g input (repeated n hs) from 0))
+own_right g input n from e h = subst (λ (l : List Field). IsSome (end_of (scans g input (repeated n l) from 0))) e h
 
 -- and what they leave
 pub own_words : (g : ℕ) (input : List ℕ) (n from : ℕ) (row : List ℕ) {gs hs : List Field} {new : List ℕ} → gs ≡ hs

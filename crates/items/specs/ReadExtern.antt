@@ -1,7 +1,8 @@
 -- Reading an extern name by value: where it ends, and its words, whose starts are counted from its own first byte.
-use Rattle.std.specs.Prelude.{ℕ, ◌<◌, cond, List, [], ◌∷◌, ◌++◌, ◌≡◌, ltb}
-use Rattle.fields.specs.declared.Leaf.{Leaf}
-use Rattle.fields.specs.declared.Leaf.TheVariants.{Fine, Bad}
+use Rattle.std.specs.Prelude.{Err, Ok, Option, Some, None, IsSomeAnd}
+use Rattle.std.specs.Prelude.{ℕ, ◌<◌, cond, List, [], ◌∷◌, ◌++◌, ◌≡◌}
+use Rattle.fields.specs.Leaf.{Leaf}
+use Rattle.fields.specs.Leaf.{Bad}
 use Rattle.fields.specs.declared.Refusal.TheVariants.{Limit}
 use Rattle.reading.specs.Fill.{fill_extern}
 use Rattle.reading.specs.Scan.{scan_extern}
@@ -16,25 +17,25 @@ slot_words s = s.present ∷ s.start ∷ s.size ∷ []
 abbrev pub extern_words : Extern → List ℕ
 extern_words e = e.start ∷ e.size ∷ (slot_words e.implements ++ (slot_words e.suffix ++ slot_words e.id))
 
--- an extern name ends at a place, and says so; where it is not right, it says 0
-abbrev pub Says : Leaf → List ℕ → Extern → Type 0
-Says (Fine t m) ws r = (0 < r.took) × (r.took ≡ t) × (extern_words r ≡ ws)
-Says (Bad w j) ws r = r.took ≡ 0
+-- an extern name ends at a place, and says so; where it is not right, there is none
+abbrev pub Says : Leaf → List ℕ → Option Extern → Type 0
+Says (Ok span) ws r = IsSomeAnd r (λ e. (0 < e.took) × (e.took ≡ span.took) × (extern_words e ≡ ws))
+Says (Err fault) ws r = r ≡ None
 
 -- of an input and a grade that pass no limit
 unfoldable pub extern_within : ℕ → List ℕ → Leaf
 extern_within g input = cond (within 1 g input) (scan_extern g input) (Bad Limit 0)
 
--- how many bytes it takes and its words; 0 alone where it is not right
+-- how many bytes it takes and its words, if it is right
 abbrev pub value_of_extern : Extern → List ℕ
-value_of_extern r = cond (ltb 0 r.took) (r.took ∷ extern_words r) (0 ∷ [])
+value_of_extern r = r.took ∷ extern_words r
 
-abbrev pub value_of : Leaf → List ℕ → List ℕ
-value_of (Fine t m) ws = t ∷ ws
-value_of (Bad w j) ws = 0 ∷ []
+abbrev pub value_of : Leaf → List ℕ → Option (List ℕ)
+value_of (Ok span) ws = Some (span.took ∷ ws)
+value_of (Err fault) ws = None
 
-unfoldable pub read_extern : ℕ → List ℕ → List ℕ
+unfoldable pub read_extern : ℕ → List ℕ → Option (List ℕ)
 read_extern g input = value_of (extern_within g input) (fill_extern g 0 input)
 
-abbrev pub ExternRead : ℕ → List ℕ → Extern → Type 0
+abbrev pub ExternRead : ℕ → List ℕ → Option Extern → Type 0
 ExternRead g input r = Says (extern_within g input) (fill_extern g 0 input) r

@@ -1,7 +1,7 @@
 // Straight reading: an arm for every first byte, with the component binary document's names.
 ghost use Rattle.std.specs.Prelude.{◌<◌, ◌≤◌, ◌∷◌, [], ◌≡◌, length};
 ghost use Rattle.fields.specs.declared.Field.TheVariants as field;
-ghost use Rattle.fields.specs.declared.Leaf.TheVariants.{Fine};
+ghost use Rattle.fields.specs.Leaf.{Fine};
 ghost use Rattle.reading.specs.Fill.{fill};
 ghost use Rattle.reading.specs.Read.{scanned, filled};
 ghost use Rattle.reading.specs.inside.Stages.{counted_scan, counted_fill};
@@ -19,72 +19,57 @@ use crate::item::{
     values_item,
 };
 use crate::resource::resource_item;
+use fields::Extent;
 use numbers::seen_unsigned;
-use reading::Tried;
 
 // record, variant, tuple, flags, enum: a count and as many groups.
-fn read_counted(kind: u32, grade: u32, input: &[u8], row: &mut [u32]) -> Tried
+fn read_counted(kind: u32, grade: u32, input: &[u8], row: &mut [u32]) -> Option<Extent>
     requires { (0 < length input.now) × (length input.now ≤ input_bytes) }
     ensures { left_tried result row.new ≡ tried (counted_scan 1 grade (counted_of kind) input.now 1 1) (kind ∷ counted_fill 1 grade (counted_of kind) input.now 1) row.old }
 {
-    let count = seen_unsigned(&input[1..]);
-    let took = count.took;
-    if took == 0 {
-        return Tried::Not;
-    }
+    let count = seen_unsigned(&input[1..])?;
     let n = count.value as usize;
-    let from = 1 + took;
-    let end = groups_end(kind, grade, &input[0..], from, n);
-    if end == 0 {
-        return Tried::Not;
-    }
+    let from = 1 + count.took;
+    let end = groups_end(kind, grade, input, from, n)?;
     let words = 2 + n * group_wide(kind);
-    if reading::has_room(words, row.len()) {
-        row[0] = kind;
-        row[1] = count.value;
-        fill_groups(kind, grade, &input[0..], from, n, row);
-        return Tried::Item(words, end);
+    if !reading::has_room(words, row.len()) {
+        return None;
     }
-    Tried::Not
+    row[0] = kind;
+    row[1] = count.value;
+    fill_groups(kind, grade, input, from, n, row);
+    Some(Extent { words, took: end })
 }
 
 // function: its first byte, parameters and a result, which is read with the parameters and stored behind them.
-fn read_function(a: u32, grade: u32, input: &[u8], row: &mut [u32]) -> Tried
+fn read_function(a: u32, grade: u32, input: &[u8], row: &mut [u32]) -> Option<Extent>
     requires input_nonzero { (0 < length input.now) × (length input.now ≤ input_bytes) }
     requires input_value { (scan 1 grade field.Async input.now ≡ Fine 1 1) × (fill grade field.Async 0 input.now ≡ a ∷ []) }
     ensures { left_tried result row.new ≡ tried (scanned 1 grade function_shape input.now) (filled 15 1 grade function_shape input.now) row.old }
 {
-    let count = seen_unsigned(&input[1..]);
-    let took = count.took;
-    if took == 0 {
-        return Tried::Not;
-    }
+    let count = seen_unsigned(&input[1..])?;
     let n = count.value as usize;
-    let from = 1 + took;
-    let end = fields_end(grade, &input[0..], from, n);
-    if end == 0 {
-        return Tried::Not;
-    }
-    let last = reading::result(grade, &input[end..]);
-    let more = last.took;
-    if more == 0 {
-        return Tried::Not;
-    }
+    let from = 1 + count.took;
+    let end = fields_end(grade, input, from, n)?;
+    let last = reading::result(grade, &input[end..])?;
     let words = 5 + n * 4;
-    if reading::has_room(words, row.len()) {
-        row[0] = 15;
-        row[1] = a;
-        row[2] = count.value;
-        fill_fields(grade, &input[0..], from, n, row, 3);
-        row[3 + n * 4] = last.a;
-        row[4 + n * 4] = last.b;
-        return Tried::Item(words, end + more);
+    if !reading::has_room(words, row.len()) {
+        return None;
     }
-    Tried::Not
+    row[0] = 15;
+    row[1] = a;
+    row[2] = count.value;
+    fill_fields(grade, input, from, n, row, 3);
+    row[3 + n * 4] = last.a;
+    row[4 + n * 4] = last.b;
+    Some(Extent {
+        words,
+        took: end + last.took,
+    })
 }
 
 // The item that begins with a byte, whose kind is of no grade above.
-pub fn by_first(first: u8, grade: u32, input: &[u8], row: &mut [u32]) -> Tried
+pub fn by_first(first: u8, grade: u32, input: &[u8], row: &mut [u32]) -> Option<Extent>
     requires input_nonzero { (0 < length input.now) × (length input.now ≤ input_bytes) × (byte input.now 0 ≡ first) }
     requires le_grade { (1 ≤ grade) × (lead_grade (kind_of first) ≤ grade) }
     ensures { left_tried result row.new ≡ tried_found (shape_of (kind_of first)) (kind_of first) (lead_grade (kind_of first)) grade input.now row.old }
@@ -123,7 +108,7 @@ pub fn by_first(first: u8, grade: u32, input: &[u8], row: &mut [u32]) -> Tried
         // async function
         0x43 => {
             if grade < 2 {
-                return Tried::Not;
+                return None;
             }
             read_function(1, grade, input, row)
         }

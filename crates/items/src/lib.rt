@@ -7,7 +7,7 @@ mod import;
 mod item;
 mod resource;
 
-ghost use Rattle.std.specs.Prelude.{◌≡◌};
+ghost use Rattle.std.specs.Prelude.{option_map, ◌≡◌};
 ghost use Rattle.fields.specs.Answers.{left_row};
 ghost use Rattle.items.specs.ReadExtern.{value_of_extern, read_extern};
 ghost use Rattle.items.specs.ReadImport.{read_import};
@@ -15,7 +15,6 @@ ghost use Rattle.items.specs.ReadType.{kind_of, lead_grade, read_type};
 
 use fields::{Read, Site};
 pub use import::{Extern, Slot};
-use reading::Tried;
 
 // The kind of the items that begin with a byte; 17 is no type's.
 fn kind_of(first: u8) -> u32
@@ -75,11 +74,8 @@ pub fn read_type(input: &[u8], grade: u32, row: &mut [u32]) -> Read
     let kind = kind_of(byte);
     let lead = lead_grade(kind);
     if reading::is_within(lead, grade, input) {
-        match first::by_first(byte, grade, &input[0..], row) {
-            Tried::Item(words, took) => {
-                return Read::Item(words, took);
-            }
-            Tried::Not => {}
+        if let Some(item) = first::by_first(byte, grade, input, row) {
+            return Ok(item);
         }
     }
     reading::item_refusal(types::shape_of(kind), lead, grade, input)
@@ -90,23 +86,19 @@ pub fn read_import(input: &[u8], grade: u32, row: &mut [u32]) -> Read
     ensures { left_row result row.new ≡ read_import grade input.now row.old }
 {
     if reading::is_within(1, grade, input) {
-        match import::read_straight(grade, &input[0..], row) {
-            Tried::Item(words, took) => {
-                return Read::Item(words, took);
-            }
-            Tried::Not => {}
+        if let Some(item) = import::read_straight(grade, input, row) {
+            return Ok(item);
         }
     }
     reading::item_refusal(imports::shape_of(17), 1, grade, input)
 }
 
-// The extern name at the front of an input within the limits, by value: it takes 0 bytes where there is none that is right, and its
-// starts are counted from the front.
-pub fn extern_name(grade: u32, input: &[u8]) -> Extern
-    ensures { value_of_extern result ≡ read_extern grade input.now }
+// The extern name at the front of an input within the limits, by value, if it is right; its starts are counted from the front.
+pub fn extern_name(grade: u32, input: &[u8]) -> Option<Extern>
+    ensures { option_map value_of_extern result ≡ read_extern grade input.now }
 {
-    if reading::is_within(1, grade, input) {
-        return import::extern_name(grade, &input[0..]);
+    if !reading::is_within(1, grade, input) {
+        return None;
     }
-    import::no_extern()
+    import::extern_name(grade, input)
 }

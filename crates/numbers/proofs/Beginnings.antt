@@ -3,7 +3,7 @@ use Rattle.std.proofs.Common.{◌≡◌, ℕ, zero, suc, ◌<◌, ◌≤◌, Boo
 use Rattle.numbers.specs.Beginnings.{LongestBeginning}
 use Rattle.numbers.specs.Bytes.{Bytes}
 use Rattle.numbers.specs.Text.{Range, Row, table, among, first_in, Step, Next, Bad, step, onward, rest, text, goes, stop, spelling_of}
-use Rattle.numbers.specs.declared.text.Spelling.TheVariants.{Stops}
+use Rattle.numbers.specs.Spelling.{Stops}
 use Rattle.numbers.proofs.TextChunks.{side}
 use Rattle.numbers.proofs.TextRows.{and_left, and_right}
 use Rattle.numbers.proofs.TextLaws.{later-rest, stop-within, spelled_wrong, stops_stop}

@@ -1,11 +1,12 @@
 -- The laws of `specs/Bytes.antt`: runs of stores (`sets`), what storing comes to where the bytes fit and where they do not, and the
 -- parts of the caller's bytes. Assumes nothing.
+use Rattle.std.specs.Prelude.{Ok}
 use Rattle.std.proofs.Common.{◌≡◌, ℕ, zero, suc, ◌+◌, ◌-◌, ◌<◌, ◌≤◌, Bool, true, false, cond, leb, ◌⊎◌, List, [], ◌∷◌, ◌++◌, length, get_or, take, drop, set, refl, ◌∙◌, inl, inr, append_assoc, le_of_eq, add-zero, add-suc, suc-add, arith, length-drop, length-take-le, take_all, get_or-set_other, drop_at, le-leb}
 use borrow.Author.Tests.{lt-leb}
 use lib.Seq.{sets, sets-eq, take-append_seam}
 use Rattle.numbers.specs.Bytes.{Left, left, store, part_of}
 use Rattle.numbers.specs.Numbers.{value_of}
-use Rattle.numbers.specs.declared.bytes.Stored.TheVariants.{Size, Room}
+use Rattle.numbers.specs.Stored.{Room}
 
 -- ---- runs of stores
 
@@ -49,7 +50,7 @@ sets_below m (b ∷ bs) l at hb hl =
 
 pub store-fits :
     (bytes : List ℕ) (at : ℕ) (out : List ℕ) → at + length bytes ≤ length out
-    → store bytes at out ≡ left (Size (length bytes)) (sets out at bytes)
+    → store bytes at out ≡ left (Ok (length bytes)) (sets out at bytes)
 unfolding store
 store-fits bytes at out h = simp (le-leb _ _ h)
 
@@ -61,17 +62,17 @@ store-room bytes at out h = simp (lt-leb _ _ h)
 
 -- what holds where there is room and where there is none, holds
 pub store-either :
-    (P : Left → Type 0) (bytes : List ℕ) (at : ℕ) (out : List ℕ) → P (left (Size (length bytes)) (sets out at bytes))
+    (P : Left → Type 0) (bytes : List ℕ) (at : ℕ) (out : List ℕ) → P (left (Ok (length bytes)) (sets out at bytes))
     → P (left (Room (length bytes)) out) → P (store bytes at out)
 unfolding store
 store-either P bytes at out h k = go (leb (at + length bytes) (length out))
   where
-    go : (b : Bool) → P (cond b (left (Size (length bytes)) (sets out at bytes)) (left (Room (length bytes)) out))
+    go : (b : Bool) → P (cond b (left (Ok (length bytes)) (sets out at bytes)) (left (Room (length bytes)) out))
     go true = h
     go false = k
 
 -- the value of an answer is its size, with room and without
-pub size-value : (n : ℕ) → value_of (Size n) ≡ n
+pub size-value : (n : ℕ) → value_of (Ok n) ≡ n
 unfolding value_of
 size-value n = refl
 

@@ -1,14 +1,16 @@
 -- A number is taken from exactly the core document's integers of 32 bits, and what is put is one of them.
+use Rattle.std.specs.Prelude.{Ok}
 use Rattle.std.proofs.Common.{◌≡◌, ℕ, zero, suc, ◌+◌, ◌-◌, ◌*◌, ◌^◌, ◌<◌, ◌≤◌, Bool, true, false, cond, ltb, List, [], ◌∷◌, ◌++◌, length, get_or, take, sym, refl, subst, add-one, arith, pow-add, ltb-false, ltb-true, le-ltb, lt-ltb}
 use Rattle.numbers.specs.Bytes.{Bytes}
 use Rattle.numbers.specs.Exact.{TakenExactly}
 use Rattle.numbers.specs.Integers as integer
 use Rattle.numbers.specs.Integers.{Integer, Form, u32, s33}
 use Rattle.numbers.specs.Leb.{more, number_in, within32, take_in}
-use Rattle.numbers.specs.declared.leb.Taken.{Taken}
-use Rattle.numbers.specs.declared.leb.Taken.TheVariants.{Value, Cut, Bad}
+use Rattle.numbers.specs.Taken.{Taken}
+use Rattle.numbers.specs.Taken.{Value, Cut, Bad}
 use Rattle.numbers.proofs.IntegerLaws.{bits, integer-size}
 use Rattle.numbers.proofs.Impossible.{impossible}
+use Rattle.numbers.proofs.OutcomeLaws.{value-same}
 
 -- what is within 32 bits was there, and is
 record Within (r : Taken) (n t : ℕ) : Type 0 where
@@ -17,12 +19,12 @@ record Within (r : Taken) (n t : ℕ) : Type 0 where
 
 within : (r : Taken) (n t : ℕ) → within32 r ≡ Value n t → Within r n t
 unfolding within32
-within (Value w u) n t e = go (ltb w (2 ^ 32)) refl e
+within (Ok taken) n t e = go (ltb taken.value (2 ^ 32)) refl e
   where
-    go : (q : Bool) → ltb w (2 ^ 32) ≡ q → cond q (Value w u) Bad ≡ Value n t → Within (Value w u) n t
+    go : (q : Bool) → ltb taken.value (2 ^ 32) ≡ q → cond q (Value taken.value taken.took) Bad ≡ Value n t → Within (Value taken.value taken.took) n t
     go true h e =
-        let x : w ≡ n = cc in
-        record { is = e; small = omega (arith, ltb-true w (2 ^ 32) h) }
+        let x : taken.value ≡ n = cc in
+        record { is = e; small = omega (arith, ltb-true taken.value (2 ^ 32) h) }
     go false h e = impossible cc
 within Cut n t e = impossible cc
 within Bad n t e = impossible cc
@@ -49,12 +51,12 @@ module _ (end : ℕ) where
       later = (w u : ℕ) → number_in end k s ≡ Value w u → (0 < u) × (u ≤ k) × (u ≤ length s)
 
       rest : (r : Taken) → number_in end k s ≡ r → more b r ≡ Value v t → later → (0 < t) × (t ≤ suc k) × (t ≤ suc (length s))
-      rest (Value w u) r e ih = let a : u + 1 ≡ t = cc in omega (arith, ih w u r)
+      rest (Ok taken) r e ih = let a : taken.took + 1 ≡ t = (value-same e).1 in omega (arith, ih taken.value taken.took r)
       rest Cut r e ih = impossible cc
       rest Bad r e ih = impossible cc
 
       go : (p q : Bool) → cond p (cond q (Value b 1) Bad) (more b (number_in end k s)) ≡ Value v t → later → (0 < t) × (t ≤ suc k) × (t ≤ suc (length s))
-      go true true e ih = let a : 1 ≡ t = cc in omega arith
+      go true true e ih = let a : 1 ≡ t = (value-same e).1 in omega arith
       go true false e ih = impossible cc
       go false q e ih = rest (number_in end k s) refl e ih
 
@@ -76,7 +78,7 @@ module _ (end : ℕ) where
       later = number_in end k s ≡ Cut → (length s < k) × All s
 
       rest : (r : Taken) → number_in end k s ≡ r → 128 ≤ b → more b r ≡ Cut → later → (suc (length s) < suc k) × All (b ∷ s)
-      rest (Value w u) r m e ih = impossible cc
+      rest (Ok taken) r m e ih = impossible cc
       rest Cut r m e ih = let h = ih r in (omega (arith, h.0), all m h.1)
       rest Bad r m e ih = impossible cc
 
@@ -102,7 +104,7 @@ module _ (end : ℕ) where
       fit w u false e = impossible cc
 
       go : (r : Taken) → number_in end 5 s ≡ r → within32 r ≡ Cut → (length s < 5) × ((i : ℕ) → i < length s → 128 ≤ get_or s i 0)
-      go (Value w u) r e = fit w u (ltb w (2 ^ 32)) e
+      go (Ok taken) r e = fit taken.value taken.took (ltb taken.value (2 ^ 32)) e
       go Cut r e = cut_in 5 s r
       go Bad r e = impossible cc
 
@@ -137,16 +139,14 @@ module _ (end sign : ℕ) (low : 63 < end) (high : end ≤ 128) (slight : sign �
   -- a last byte, and a byte before an integer
   ends : (j b : ℕ) (s : List ℕ) (v t : ℕ) → b < end → Value b 1 ≡ Value v t → v < 2 ^ bits j → Integer end sign (bits j + sign) (take t (b ∷ s)) v
   ends j b s v t l e h =
-      let a : 1 ≡ t = cc in
-      let x : b ≡ v = cc in
+      let (x, a) = value-same e in
       let d : bits j + sign - sign ≡ bits j = omega arith in
       rw (← a, ← x) (integer.last l (subst (λ m. b < 2 ^ m) (sym d) (subst (λ m. m < 2 ^ bits j) (sym x) h)))
 
   goes_on : (j b : ℕ) (s : List ℕ) (w u v t : ℕ) → 2 ^ 7 ≤ b → b < 2 ^ 8 → Value (w * 128 + (b - 128)) (u + 1) ≡ Value v t
       → 7 < bits (suc j) → Integer end sign (bits j + sign) (take u s) w → Integer end sign (bits (suc j) + sign) (take t (b ∷ s)) v
   goes_on j b s w u v t l h e p i =
-      let a : u + 1 ≡ t = cc in
-      let x : w * 128 + (b - 128) ≡ v = cc in
+      let (x, a) = value-same e in
       let y : 2 ^ 7 * w + (b - 2 ^ 7) ≡ v = omega arith in
       let d : bits (suc j) + sign - 7 ≡ bits j + sign = omega arith in
       rw (← a, add-one)
@@ -176,9 +176,9 @@ module _ (end sign : ℕ) (low : 63 < end) (high : end ≤ 128) (slight : sign �
       later = (w u : ℕ) → number_in end (suc j) s ≡ Value w u → w < 2 ^ bits j → Integer end sign (bits j + sign) (take u s) w
 
       rest : (r : Taken) → number_in end (suc j) s ≡ r → 128 ≤ b → more b r ≡ Value v t → later → goal
-      rest (Value w u) r m e ih =
-          let x : w * 128 + (b - 128) ≡ v = cc in
-          goes_on j b s w u v t m (f 0) e (some j) (ih w u r (omega (arith, pow-add 2 7 (bits j))))
+      rest (Ok taken) r m e ih =
+          let x : taken.value * 128 + (b - 128) ≡ v = (value-same e).0 in
+          goes_on j b s taken.value taken.took v t m (f 0) e (some j) (ih taken.value taken.took r (omega (arith, pow-add 2 7 (bits j))))
       rest Cut r m e ih = impossible cc
       rest Bad r m e ih = impossible cc
 

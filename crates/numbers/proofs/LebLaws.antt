@@ -5,7 +5,7 @@ use Rattle.numbers.specs.Again.{Again}
 use Rattle.numbers.specs.Integers.{Form, u32, s33}
 use Rattle.numbers.specs.Leb.{bytes_of, number_in, within32, take_in}
 use Rattle.numbers.specs.Bytes.{Bytes}
-use Rattle.numbers.specs.declared.leb.Taken.TheVariants.{Value}
+use Rattle.numbers.specs.Taken.{Value}
 use Rattle.numbers.proofs.ExactLaws.{taken-exactly, taken-small, taken_in, inside}
 use Rattle.numbers.proofs.IntegerLaws.{put_is, integer-bytes, integer-again}
 use Rattle.numbers.proofs.Shortest.{room, bytes-last, bytes-more, at_most, size_by_bounds}

@@ -13,5 +13,6 @@ pub mod ExactLaws
 pub mod Impossible
 pub mod IntegerLaws
 pub mod LebLaws
+pub mod OutcomeLaws
 pub mod SeenLaws
 pub mod TextLaws

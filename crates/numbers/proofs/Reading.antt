@@ -1,8 +1,9 @@
 -- What the loop that reads a number keeps. Assumes nothing.
+use Rattle.std.specs.Prelude.{Ok}
 use Rattle.std.proofs.Common.{◌≡◌, ℕ, zero, suc, ◌+◌, ◌-◌, ◌*◌, ◌^◌, ◌<◌, ◌≤◌, List, length, get_or, drop, refl, ap, ◌∙◌, mul-le-mul_right, mul_assoc, mul_comm, add-mul, add-one, arith, drop_of_length-le, drop-cons, le-ltb, lt-ltb}
 use Rattle.numbers.specs.Leb.{more, number_in, within32, take_in}
-use Rattle.numbers.specs.declared.leb.Taken.{Taken}
-use Rattle.numbers.specs.declared.leb.Taken.TheVariants.{Value, Cut, Bad}
+use Rattle.numbers.specs.Taken.{Taken}
+use Rattle.numbers.specs.Taken.{Value, Cut, Bad}
 use Rattle.numbers.proofs.Shortest.{room}
 
 pub number_end : (end k : ℕ) (s : List ℕ) (i : ℕ) → length s ≤ i → number_in end (suc k) (drop i s) ≡ Cut
@@ -26,24 +27,24 @@ number_more end k s i h l = rw (drop-cons s i 0 h) (simp (le-ltb _ _ l))
 
 -- the number that the first i bytes begin, which come to `low`, where those from i on read as r
 abbrev pub after : ℕ → ℕ → ℕ → Taken → Taken
-after low scale i (Value v t) = Value (low + v * scale) (i + t)
+after low scale i (Ok taken) = Value (low + taken.value * scale) (i + taken.took)
 after low scale i Cut = Cut
 after low scale i Bad = Bad
 
 pub after_none : (r : Taken) → r ≡ after 0 1 0 r
-after_none (Value v t) =
-    let p : v ≡ 0 + v * 1 = omega arith in
-    let q : t ≡ 0 + t = omega arith in
+after_none (Ok taken) =
+    let p : taken.value ≡ 0 + taken.value * 1 = omega arith in
+    let q : taken.took ≡ 0 + taken.took = omega arith in
     λ j. Value (p j) (q j)
 after_none Cut = refl
 after_none Bad = refl
 
 pub after_more : (low scale i b : ℕ) (r : Taken) → after low scale i (more b r) ≡ after (low + (b - 128) * scale) (scale * 128) (i + 1) r
 unfolding more
-after_more low scale i b (Value v t) =
-    let sum : low + (v * 128 + (b - 128)) * scale ≡ low + (b - 128) * scale + v * (scale * 128) =
-    omega (arith, add-mul (v * 128) (b - 128) scale, mul_assoc v 128 scale, ap (λ (k : ℕ). v * k) (mul_comm 128 scale)) in
-    let place : i + (t + 1) ≡ i + 1 + t = omega arith in
+after_more low scale i b (Ok taken) =
+    let sum : low + (taken.value * 128 + (b - 128)) * scale ≡ low + (b - 128) * scale + taken.value * (scale * 128) =
+    omega (arith, add-mul (taken.value * 128) (b - 128) scale, mul_assoc taken.value 128 scale, ap (λ (k : ℕ). taken.value * k) (mul_comm 128 scale)) in
+    let place : i + (taken.took + 1) ≡ i + 1 + taken.took = omega arith in
     λ j. Value (sum j) (place j)
 after_more low scale i b Cut = refl
 after_more low scale i b Bad = refl

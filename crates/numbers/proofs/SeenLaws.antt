@@ -1,12 +1,13 @@
 -- A number as straight code sees it: when there is one, what it then is, what the first byte tells of it, and the short numbers of two
 -- or three bytes.
+use Rattle.std.specs.Prelude.{Ok, Err, Option, Some, None}
 use Rattle.std.proofs.Common.{◌≡◌, ℕ, zero, suc, ◌+◌, ◌-◌, ◌*◌, ◌/◌, ◌%◌, ◌^◌, ◌<◌, ◌≤◌, Bool, true, false, cond, ltb, List, [], ◌∷◌, ◌++◌, length, get_or, take, drop, sym, refl, ap, ◌∙◌, mul-zero, mul-one, arith, take-append-drop, ltb-false, ltb-true, le-ltb, lt-ltb}
 use Rattle.numbers.specs.Integers.{Form, u32, s33}
 use Rattle.numbers.specs.Leb.{more, number_in, within32, take_in, take_unsigned, take_signed}
 use Rattle.numbers.specs.Seen.{number, seen, short_signed}
 use Rattle.numbers.specs.declared.leb.Number.{Number}
-use Rattle.numbers.specs.declared.leb.Taken.{Taken}
-use Rattle.numbers.specs.declared.leb.Taken.TheVariants.{Value, Cut, Bad}
+use Rattle.numbers.specs.Taken.{Taken}
+use Rattle.numbers.specs.Taken.{Value, Cut, Bad}
 use Rattle.numbers.proofs.ExactLaws.{taken-small}
 use Rattle.numbers.proofs.LebLaws.{taken-inside, take-one}
 use Rattle.numbers.proofs.Impossible.{impossible}
@@ -14,21 +15,20 @@ use Rattle.numbers.proofs.Impossible.{impossible}
 -- ---- what is seen
 
 -- a number that was taken is seen
-pub seen_value : (t : Taken) (n k : ℕ) → t ≡ Value n k → seen t ≡ number n k
+pub seen_value : (t : Taken) (n k : ℕ) → t ≡ Value n k → seen t ≡ Some (number n k)
 seen_value t n k e = ap seen e
 
 -- where nothing was taken, nothing is seen
-pub seen-cut : (t : Taken) → t ≡ Cut → seen t ≡ number 0 0
+pub seen-cut : (t : Taken) → t ≡ Cut → seen t ≡ None
 seen-cut t e = ap seen e
 
-pub seen_bad : (t : Taken) → t ≡ Bad → seen t ≡ number 0 0
+pub seen_bad : (t : Taken) → t ≡ Bad → seen t ≡ None
 seen_bad t e = ap seen e
 
 -- what is seen was taken
-pub seen-taken : (t : Taken) → 0 < (seen t).took → t ≡ Value (seen t).value (seen t).took
-seen-taken (Value n k) h = refl
-seen-taken Cut h = absurd (omega arith)
-seen-taken Bad h = absurd (omega arith)
+pub seen-taken : (t : Taken) (r : Number) → seen t ≡ Some r → t ≡ Ok r
+seen-taken (Ok taken) r e = cc
+seen-taken (Err why) r e = impossible cc
 
 -- a number that was taken has 32 bits, of each form
 pub index-small : (s : List ℕ) (n t : ℕ) → take_unsigned s ≡ Value n t → n < 2 ^ 32
@@ -38,23 +38,17 @@ pub signed-small : (s : List ℕ) (n t : ℕ) → take_signed s ≡ Value n t �
 signed-small s n t e = taken-small 64 s n t e
 
 -- a number that is seen is the one that is taken; it has 1 to 5 bytes, which are there, and 32 bits
-pub seen-some : {end sign : ℕ} → Form end sign → (s : List ℕ) → 0 < (seen (take_in end s)).took
-    → (take_in end s ≡ Value (seen (take_in end s)).value (seen (take_in end s)).took) × (0 < (seen (take_in end s)).took)
-    × ((seen (take_in end s)).took ≤ 5) × ((seen (take_in end s)).took ≤ length s) × ((seen (take_in end s)).value < 2 ^ 32)
-seen-some {end} f s h =
-    let n = (seen (take_in end s)).value in
-    let t = (seen (take_in end s)).took in
-    let e = seen-taken (take_in end s) h in
-    let k = taken-inside f s n t e in
-    (e, h, k.1, k.2, taken-small end s n t e)
+pub seen-some : {end sign : ℕ} → Form end sign → (s : List ℕ) (r : Number) → seen (take_in end s) ≡ Some r
+    → (take_in end s ≡ Ok r) × (0 < r.took) × (r.took ≤ 5) × (r.took ≤ length s) × (r.value < 2 ^ 32)
+seen-some {end} f s r h =
+    let e = seen-taken (take_in end s) r h in
+    let k = taken-inside f s r.value r.took e in
+    (e, k.0, k.1, k.2, taken-small end s r.value r.took e)
 
 -- where none is seen, none is taken
-pub seen_none : {end sign : ℕ} → Form end sign → (s : List ℕ) → (seen (take_in end s)).took ≡ 0 → (n t : ℕ) → take_in end s ≡ Value n t → ⊥
-seen_none {end} f s z n t e =
-    let k = taken-inside f s n t e in
-    let some : 0 < t = k.0 in
-    let same : (seen (take_in end s)).took ≡ t = ap (λ (x : Number). x.took) (seen_value (take_in end s) n t e) in
-    omega arith
+pub seen_none : (t : Taken) → seen t ≡ None → (n k : ℕ) → t ≡ Value n k → ⊥
+seen_none (Ok taken) z n k e = impossible cc
+seen_none (Err why) z n k e = impossible cc
 
 -- ---- what the first byte tells
 
@@ -125,10 +119,10 @@ three-cut b c d hb hc hd = simp (le-ltb b 128 hb, le-ltb c 128 hc, le-ltb d 128 
 
 -- where the last byte is y, what the bytes come to is seen where y is below 64, and nothing else
 module _ (b c d y : ℕ) (hb : 128 ≤ b) (kb : b < 256) (kc : c < 256) (two : c < 128 → y ≡ c) (three : 128 ≤ c → y ≡ d) where
-  few_above : 64 ≤ y → number 0 0 ≡ seen (take_signed (b ∷ c ∷ d ∷ []))
+  few_above : 64 ≤ y → None ≡ seen (take_signed (b ∷ c ∷ d ∷ []))
   few_above h = go (ltb c 128) refl (ltb d 128) refl
     where
-      go : (t : Bool) → ltb c 128 ≡ t → (u : Bool) → ltb d 128 ≡ u → number 0 0 ≡ seen (take_signed (b ∷ c ∷ d ∷ []))
+      go : (t : Bool) → ltb c 128 ≡ t → (u : Bool) → ltb d 128 ≡ u → None ≡ seen (take_signed (b ∷ c ∷ d ∷ []))
       go true e u q =
           let hc : c < 128 = ltb-true c 128 e in
           sym (seen_bad _ (two_past b c (d ∷ []) hb (omega (arith, two hc)) hc))
@@ -137,29 +131,29 @@ module _ (b c d y : ℕ) (hb : 128 ≤ b) (kb : b < 256) (kc : c < 256) (two : c
           sym (seen_bad _ (three-past b c d [] hb hc (omega (arith, three hc)) (ltb-true d 128 q)))
       go false e false q = sym (seen-cut _ (three-cut b c d hb (ltb-false c 128 e) (ltb-false d 128 q)))
 
-  few_is : y < 64 → number (few b c y) (2 + c / 128) ≡ seen (take_signed (b ∷ c ∷ d ∷ []))
+  few_is : y < 64 → Some (number (few b c y) (2 + c / 128)) ≡ seen (take_signed (b ∷ c ∷ d ∷ []))
   few_is h = go (ltb c 128) refl
     where
-      go : (t : Bool) → ltb c 128 ≡ t → number (few b c y) (2 + c / 128) ≡ seen (take_signed (b ∷ c ∷ d ∷ []))
+      go : (t : Bool) → ltb c 128 ≡ t → Some (number (few b c y) (2 + c / 128)) ≡ seen (take_signed (b ∷ c ∷ d ∷ []))
       go true e =
           let hc : c < 128 = ltb-true c 128 e in
           let value = few-two b c y hb kb hc in
           let took : 2 + c / 128 ≡ 2 = omega arith in
-          (λ i. number (value i) (took i)) ∙ sym (seen_value _ _ _ (two_is b c (d ∷ []) hb kb (omega (arith, two hc))))
+          (λ i. Some (number (value i) (took i))) ∙ sym (seen_value _ _ _ (two_is b c (d ∷ []) hb kb (omega (arith, two hc))))
       go false e =
           let hc : 128 ≤ c = ltb-false c 128 e in
           let value = ap (λ n. few b c n) (three hc) ∙ few-three b c d hb kb hc kc in
           let took : 2 + c / 128 ≡ 3 = omega arith in
-          (λ i. number (value i) (took i)) ∙ sym (seen_value _ _ _ (three_is_lem b c d [] hb kb hc kc (omega (arith, three hc))))
+          (λ i. Some (number (value i) (took i))) ∙ sym (seen_value _ _ _ (three_is_lem b c d [] hb kb hc kc (omega (arith, three hc))))
 
 -- ---- a short number at the front
 
 -- fewer than three bytes, or a first that is the last: none
-pub short-few : (s : List ℕ) → length s < 3 → short_signed s ≡ number 0 0
+pub short-few : (s : List ℕ) → length s < 3 → short_signed s ≡ None
 unfolding short_signed
 short-few s h = simp (lt-ltb (length s) 3 h)
 
-pub short-low : (s : List ℕ) → 3 ≤ length s → get_or s 0 0 < 128 → short_signed s ≡ number 0 0
+pub short-low : (s : List ℕ) → 3 ≤ length s → get_or s 0 0 < 128 → short_signed s ≡ None
 unfolding short_signed
 short-low s h k = simp (le-ltb (length s) 3 h, lt-ltb (get_or s 0 0) 128 k)
 
@@ -192,10 +186,10 @@ last-three s k h =
 
 -- it tells whether there is one
 module _ (s : List ℕ) (h : 3 ≤ length s) (hb : 128 ≤ get_or s 0 0) (kb : get_or s 0 0 < 256) (kc : get_or s 1 0 < 256) where
-  pub short_above : 64 ≤ last s → number 0 0 ≡ short_signed s
+  pub short_above : 64 ≤ last s → None ≡ short_signed s
   short_above k = few_above _ _ _ _ hb kb kc (last-two s) (last-three s kc) k ∙ short_is s h hb
 
-  pub short_below : last s < 64 → number (few (get_or s 0 0) (get_or s 1 0) (last s)) (2 + get_or s 1 0 / 128) ≡ short_signed s
+  pub short_below : last s < 64 → Some (number (few (get_or s 0 0) (get_or s 1 0) (last s)) (2 + get_or s 1 0 / 128)) ≡ short_signed s
   short_below k = few_is _ _ _ _ hb kb kc (last-two s) (last-three s kc) k ∙ short_is s h hb
 
 -- a number at the front is there whatever follows
@@ -212,7 +206,7 @@ module _ (end : ℕ) where
       goal p = cond p (cond (ltb b end) (Value b 1) Bad) (more b (number_in end k (s ++ rest))) ≡ Value v t
 
       last : (r : Taken) → number_in end k s ≡ r → more b r ≡ Value v t → goal false
-      last (Value w u) r e = ap (λ (x : Taken). more b x) (ih w u r) ∙ e
+      last (Ok taken) r e = ap (λ (x : Taken). more b x) (ih taken.value taken.took r) ∙ e
       last Cut r e = impossible cc
       last Bad r e = impossible cc
 
@@ -231,26 +225,26 @@ module _ (end : ℕ) where
   take_longer s rest n t e = go (number_in end 5 s) refl e
     where
       go : (r : Taken) → number_in end 5 s ≡ r → within32 r ≡ Value n t → within32 (number_in end 5 (s ++ rest)) ≡ Value n t
-      go (Value w u) r e = ap within32 (longer 5 s rest w u r) ∙ e
+      go (Ok taken) r e = ap within32 (longer 5 s rest taken.value taken.took r) ∙ e
       go Cut r e = impossible cc
       go Bad r e = impossible cc
 
 -- a short number is the one that is taken from the whole, and another byte follows its first
-pub short-some : (s : List ℕ) → 0 < (short_signed s).took
-    → (take_signed s ≡ Value (short_signed s).value (short_signed s).took) × (128 ≤ get_or s 0 0) × (0 < length s)
+pub short-some : (s : List ℕ) (r : Number) → short_signed s ≡ Some r → (take_signed s ≡ Ok r) × (128 ≤ get_or s 0 0) × (0 < length s)
 unfolding short_signed
-short-some s h = go (ltb (length s) 3) refl (ltb (get_or s 0 0) 128) refl h
+short-some s r h = go (ltb (length s) 3) refl (ltb (get_or s 0 0) 128) refl h
   where
-    what : Bool → Bool → Number
-    what p q = cond p (number 0 0) (cond q (number 0 0) (seen (take_signed (take 3 s))))
+    what : Bool → Bool → Option Number
+    what p q = cond p None (cond q None (seen (take_signed (take 3 s))))
 
-    go : (p : Bool) → ltb (length s) 3 ≡ p → (q : Bool) → ltb (get_or s 0 0) 128 ≡ q → 0 < (what p q).took
-        → (take_signed s ≡ Value (what p q).value (what p q).took) × (128 ≤ get_or s 0 0) × (0 < length s)
-    go true ep q eq h = absurd (omega arith)
-    go false ep true eq h = absurd (omega arith)
+    go : (p : Bool) → ltb (length s) 3 ≡ p → (q : Bool) → ltb (get_or s 0 0) 128 ≡ q → what p q ≡ Some r
+        → (take_signed s ≡ Ok r) × (128 ≤ get_or s 0 0) × (0 < length s)
+    go true ep q eq h = impossible cc
+    go false ep true eq h = impossible cc
     go false ep false eq h =
         let size : 3 ≤ length s = ltb-false (length s) 3 ep in (
-          ap take_signed (sym (take-append-drop 3 s)) ∙ take_longer 64 (take 3 s) (drop 3 s) _ _ (seen-taken (take_signed (take 3 s)) h),
+          ap take_signed (sym (take-append-drop 3 s))
+              ∙ take_longer 64 (take 3 s) (drop 3 s) r.value r.took (seen-taken (take_signed (take 3 s)) r h),
           ltb-false (get_or s 0 0) 128 eq,
           omega arith,
         )

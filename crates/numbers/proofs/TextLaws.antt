@@ -1,14 +1,16 @@
 -- Laws of `text` and of where a name stops: bytes below 128 are text, the table and the core document agree, a text after a text is one,
 -- and a name is text or stops within itself. Then examples.
+use Rattle.std.specs.Prelude.{is_ok}
 use Rattle.std.proofs.Common.{◌≡◌, ℕ, zero, suc, ◌+◌, ◌-◌, ◌*◌, ◌^◌, ◌<◌, ◌≤◌, Bool, true, false, cond, T, ltb, ◌⊎◌, List, [], ◌∷◌, ◌++◌, map, length, take, sym, refl, ◌∙◌, inl, inr, ⊎_elim, append_assoc, arith}
 use Rattle.numbers.specs.Names.{Later, Char, one, two, three, four, Name, none, more}
 use Rattle.numbers.specs.Text.{Range, ◌to◌, Row, table, among, first_in, Step, Next, Bad, step, onward, rest, text, goes, stop, spelling_of}
 use Rattle.numbers.specs.inside.Below.{Below}
-use Rattle.numbers.specs.declared.text.Spelling.{Spelling}
-use Rattle.numbers.specs.declared.text.Spelling.TheVariants as spelling
+use Rattle.numbers.specs.Spelling.{Spelling}
+use Rattle.numbers.specs.Spelling as spelling
 use Rattle.numbers.proofs.TextChunks.{side}
 use Rattle.numbers.proofs.TextRows.{among_in, among-low, among_high, ends, nth, found}
 use Rattle.numbers.proofs.Impossible.{impossible}
+use Rattle.numbers.proofs.OutcomeLaws.{stops-same}
 
 -- ---- bytes below 128
 
@@ -217,8 +219,15 @@ stops_text s n e = go (text s) refl
     go true p = impossible (cc (spelled_right s p))
     go false p = p
 
+pub ok-text : (s : List ℕ) → is_ok (spelling_of s) ≡ text s
+ok-text s = go (text s) refl
+  where
+    go : (t : Bool) → text s ≡ t → is_ok (spelling_of s) ≡ text s
+    go true p = rw (spelled_right s p, p) refl
+    go false p = rw (spelled_wrong s p, p) refl
+
 pub stops_stop : (s : List ℕ) (n : ℕ) → spelling_of s ≡ spelling.Stops n → n ≡ stop s
-stops_stop s n e = cc (spelled_wrong s (stops_text s n e))
+stops_stop s n e = stops-same (sym e ∙ spelled_wrong s (stops_text s n e))
 
 pub stops_within : (s : List ℕ) (n : ℕ) → spelling_of s ≡ spelling.Stops n → n ≤ length s
 stops_within s n e = omega (arith, stops_stop s n e, stop-within s)

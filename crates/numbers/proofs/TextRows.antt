@@ -1,10 +1,12 @@
 -- Laws of the table, of `rest` and of `goes`: a first byte's row, a byte where some are to follow, and a sequence within a name.
+use Rattle.std.specs.Prelude.{Ok}
+use Rattle.std.specs.Prelude.{Err}
 use Rattle.std.proofs.Common.{◌≡◌, ℕ, zero, suc, ◌+◌, ◌<◌, ◌≤◌, Bool, true, false, ◌&&◌, T, ltb, leb, List, [], ◌∷◌, length, get_or, drop, sym, refl, ◌∙◌, subst, add-one, arith, ltb→lt, leb→le, drop_of_length-le, drop-cons, ltb-false, ltb-true, le-ltb, lt-ltb, le-leb}
 use borrow.Author.Tests.{lt-leb}
 use Rattle.numbers.specs.Text.{Range, ◌to◌, Row, row, table, among, first_in, Next, Bad, step, rest, goes}
 use Rattle.numbers.specs.inside.Sequences.{follows, Ends}
-use Rattle.numbers.specs.declared.text.Sequence.{Sequence}
-use Rattle.numbers.specs.declared.text.Sequence.TheVariants.{Whole, Breaks}
+use Rattle.numbers.specs.inside.Sequence.{Sequence}
+use Rattle.numbers.specs.inside.Sequence.{Breaks}
 use Rattle.numbers.proofs.Impossible.{impossible}
 
 -- ---- a byte in low..high
@@ -121,8 +123,8 @@ break_goes low high rs s j e = go (ltb j (length s)) refl e
 -- a step from j to k, of one byte
 onwards : (ps rs : List Range) (s : List ℕ) (j k i : ℕ) (r : Sequence) → k ≡ j + 1 → rest ps (drop j s) ≡ rest rs (drop k s)
     → goes ps (drop j s) ≡ suc (goes rs (drop k s)) → Ends rs s k i r → Ends ps s j i r
-onwards ps rs s j k i (Whole n) h p q w = (w.0, (p ∙ w.1.0, omega (arith, w.1.1)))
-onwards ps rs s j k i (Breaks n) h p q w = (p ∙ w.0, omega (arith, w.1))
+onwards ps rs s j k i (Ok n) h p q w = (w.0, (p ∙ w.1.0, omega (arith, w.1.1)))
+onwards ps rs s j k i (Err broken) h p q w = (p ∙ w.0, omega (arith, w.1))
 
 -- its byte at j follows, or breaks it, or its last byte is before j
 pub took : (low high : ℕ) (rs : List Range) (s : List ℕ) (j k i : ℕ) (r : Sequence) → follows s j low high ≡ true → k ≡ j + 1
@@ -134,7 +136,7 @@ pub broke : (low high : ℕ) (rs : List Range) (s : List ℕ) (j i n : ℕ) → 
     → Ends (low to high ∷ rs) s j i (Breaks n)
 broke low high rs s j i n e h = (break_rest low high rs s j e, omega (arith, break_goes low high rs s j e))
 
-pub whole : (s : List ℕ) (j i n : ℕ) → i + n ≡ j → j ≤ length s → 1 ≤ n → Ends [] s j i (Whole n)
+pub whole : (s : List ℕ) (j i n : ℕ) → i + n ≡ j → j ≤ length s → 1 ≤ n → Ends [] s j i (Ok n)
 whole s j i n h w l = ((l, omega arith), (rw h refl, rw h refl))
 
 pub follow_within : (low high : ℕ) (s : List ℕ) (j : ℕ) → follows s j low high ≡ true → j < length s

@@ -1,8 +1,8 @@
 -- Laws of windows: a name all of whose windows are right is text, and chunks that overlap cover a name.
+use Rattle.std.specs.Prelude.{Ok}
 use Rattle.std.proofs.Common.{◌≡◌, ℕ, zero, suc, ◌+◌, ◌-◌, ◌<◌, ◌≤◌, true, ◌⊎◌, List, [], ◌∷◌, length, get_or, drop, refl, ◌∙◌, subst, inl, inr, ⊎_elim, arith}
 use Rattle.numbers.specs.Text.{◌to◌, rest, text}
 use Rattle.numbers.specs.inside.Windows.{Later, First, Known, Placed, Window, Windows, All, Second, Begun, Ended}
-use Rattle.numbers.specs.declared.text.Sequence.TheVariants.{Whole}
 use Rattle.numbers.proofs.TextChunks.{side}
 use Rattle.numbers.proofs.TextRows.{nth, found, took, whole, began, ended, follow_in}
 
@@ -10,15 +10,15 @@ use Rattle.numbers.proofs.TextRows.{nth, found, took, whole, began, ended, follo
 
 one-rest : (s : List ℕ) (i : ℕ) → i < length s → get_or s i 0 ≤ 0x7f → rest [] (drop i s) ≡ rest [] (drop (i + 1) s)
 one-rest s i h b =
-    let w = began (nth 0).later s i (Whole 1) h (found 0 (get_or s i 0) tt tt (omega arith) b) (whole s (i + 1) i 1 refl (omega arith) (omega arith)) in
+    let w = began (nth 0).later s i (Ok 1) h (found 0 (get_or s i 0) tt tt (omega arith) b) (whole s (i + 1) i 1 refl (omega arith) (omega arith)) in
     w.1.0
 
 two-rest : (s : List ℕ) (i : ℕ) → i + 2 ≤ length s → 0xc2 ≤ get_or s i 0 → get_or s i 0 ≤ 0xdf → Later (get_or s (i + 1) 0)
     → rest [] (drop i s) ≡ rest [] (drop (i + 2) s)
 two-rest s i h l m t =
     let e = follow_in 0x80 0xbf s (i + 1) (omega arith) t.0 t.1 in
-    let w = began (nth 1).later s i (Whole 2) (omega arith) (found 1 (get_or s i 0) tt tt l m)
-    (took 0x80 0xbf [] s (i + 1) (i + 2) i (Whole 2) e (omega arith) (whole s (i + 2) i 2 refl h (omega arith))) in
+    let w = began (nth 1).later s i (Ok 2) (omega arith) (found 1 (get_or s i 0) tt tt l m)
+    (took 0x80 0xbf [] s (i + 1) (i + 2) i (Ok 2) e (omega arith) (whole s (i + 2) i 2 refl h (omega arith))) in
     w.1.0
 
 three-rest : (s : List ℕ) (i : ℕ) → i + 3 ≤ length s → 0xe1 ≤ get_or s i 0 → get_or s i 0 ≤ 0xec → Later (get_or s (i + 1) 0) → Later (get_or s (i + 2) 0)
@@ -26,9 +26,9 @@ three-rest : (s : List ℕ) (i : ℕ) → i + 3 ≤ length s → 0xe1 ≤ get_or
 three-rest s i h l m t u =
     let e₂ = follow_in 0x80 0xbf s (i + 1) (omega arith) t.0 t.1 in
     let e₃ = follow_in 0x80 0xbf s (i + 2) (omega arith) u.0 u.1 in
-    let w = began (nth 3).later s i (Whole 3) (omega arith) (found 3 (get_or s i 0) tt tt l m)
-    (took 0x80 0xbf (0x80 to 0xbf ∷ []) s (i + 1) (i + 2) i (Whole 3) e₂ (omega arith)
-    (took 0x80 0xbf [] s (i + 2) (i + 3) i (Whole 3) e₃ (omega arith) (whole s (i + 3) i 3 refl h (omega arith)))) in
+    let w = began (nth 3).later s i (Ok 3) (omega arith) (found 3 (get_or s i 0) tt tt l m)
+    (took 0x80 0xbf (0x80 to 0xbf ∷ []) s (i + 1) (i + 2) i (Ok 3) e₂ (omega arith)
+    (took 0x80 0xbf [] s (i + 2) (i + 3) i (Ok 3) e₃ (omega arith) (whole s (i + 3) i 3 refl h (omega arith)))) in
     w.1.0
 
 -- ---- a window

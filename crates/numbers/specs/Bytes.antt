@@ -1,8 +1,9 @@
 -- Bytes stored at a place of a lent buffer, and a part of the caller's bytes.
+use Rattle.std.specs.Prelude.{Ok}
 use Rattle.std.specs.Prelude.{ℕ, ◌+◌, ◌^◌, ◌<◌, cond, List, [], length, take, drop, nat_le, slice_index}
 use Rattle.std.proofs.lemmas.List.Edits.{sets}
-use Rattle.numbers.specs.declared.bytes.Stored.{Stored}
-use Rattle.numbers.specs.declared.bytes.Stored.TheVariants.{Size, Room}
+use Rattle.numbers.specs.Stored.{Stored}
+use Rattle.numbers.specs.Stored.{Room}
 
 -- each element is a byte
 abbrev pub Bytes : List ℕ → Type 0
@@ -19,7 +20,7 @@ left r out = record { answer = r; buffer = out }
 -- the bytes from place `at` of the buffer on, or nothing at all where they do not fit
 unfoldable pub store : List ℕ → ℕ → List ℕ → Left
 store bytes at out =
-    cond (nat_le (at + length bytes) (length out)) (left (Size (length bytes)) (sets out at bytes)) (left (Room (length bytes)) out)
+    cond (nat_le (at + length bytes) (length out)) (left (Ok (length bytes)) (sets out at bytes)) (left (Room (length bytes)) out)
 
 -- the `size` bytes from `start` on, or the empty part where they run past the input
 unfoldable pub part_of : List ℕ → ℕ → ℕ → List ℕ

@@ -3,7 +3,7 @@ use Rattle.std.specs.Prelude.{◌≡◌, ℕ, ◌+◌, ◌<◌, ◌≤◌, List,
 use Rattle.numbers.specs.Bytes.{Bytes}
 use Rattle.numbers.specs.Integers.{Integer}
 use Rattle.numbers.specs.Leb.{take_in}
-use Rattle.numbers.specs.declared.leb.Taken.TheVariants.{Value, Cut}
+use Rattle.numbers.specs.Taken.{Value, Cut}
 
 -- of the form that ends below `end` and gives the sign so many bits: the u32, and the s33 that is not below zero
 pub record TakenExactly (end sign : ℕ) : Type 0 where

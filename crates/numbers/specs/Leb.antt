@@ -1,9 +1,10 @@
 -- Integers as LEB128 bytes (WebAssembly core, 5.2.2): seven bits a byte, the lowest first, and 128 added to each byte that another one
 -- follows. `end` bounds the last byte: 128 in a u32, and 64 in an s33 that is not below zero, whose last byte leaves the sign's bit
 -- clear. Put in the shortest form; taken in every form of 32 bits and five bytes, those that zeros pad included (`Exact.antt`).
+use Rattle.std.specs.Prelude.{Ok}
 use Rattle.std.specs.Prelude.{ℕ, zero, suc, ◌+◌, ◌-◌, ◌*◌, ◌/◌, ◌%◌, ◌^◌, cond, List, [], ◌∷◌, nat_lt}
-use Rattle.numbers.specs.declared.leb.Taken.{Taken}
-use Rattle.numbers.specs.declared.leb.Taken.TheVariants.{Value, Cut, Bad}
+use Rattle.numbers.specs.Taken.{Taken}
+use Rattle.numbers.specs.Taken.{Value, Cut, Bad}
 
 -- ---- putting
 
@@ -23,7 +24,7 @@ signed n = bytes_of 64 5 n
 
 -- the byte b, which another follows, before what the bytes after it come to
 unfoldable pub more : ℕ → Taken → Taken
-more b (Value v t) = Value (v * 128 + (b - 128)) (t + 1)
+more b (Ok taken) = Value (taken.value * 128 + (b - 128)) (taken.took + 1)
 more b Cut = Cut
 more b Bad = Bad
 
@@ -35,7 +36,7 @@ number_in end (suc k) (b ∷ s) = cond (nat_lt b 128) (cond (nat_lt b end) (Valu
 
 -- a number of 32 bits
 unfoldable pub within32 : Taken → Taken
-within32 (Value v t) = cond (nat_lt v (2 ^ 32)) (Value v t) Bad
+within32 (Ok taken) = cond (nat_lt taken.value (2 ^ 32)) (Value taken.value taken.took) Bad
 within32 Cut = Cut
 within32 Bad = Bad
 

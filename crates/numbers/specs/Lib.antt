@@ -7,5 +7,8 @@ pub mod Leb
 pub mod Names
 pub mod Numbers
 pub mod Seen
+pub mod Spelling
+pub mod Stored
+pub mod Taken
 pub mod Text
 pub mod inside

@@ -1,19 +1,19 @@
 -- Document 01's number and value of each answer: 0 OK, 8 ROOM, 11 CUT, 13 NUMBER.
+use Rattle.std.specs.Prelude.{Err, Ok}
 use Rattle.std.specs.Prelude.{ℕ}
-use Rattle.numbers.specs.declared.bytes.Stored.{Stored}
-use Rattle.numbers.specs.declared.bytes.Stored.TheVariants.{Size, Room}
-use Rattle.numbers.specs.declared.leb.Taken.{Taken}
-use Rattle.numbers.specs.declared.leb.Taken.TheVariants.{Value, Cut, Bad}
+use Rattle.numbers.specs.Stored.{Stored}
+use Rattle.numbers.specs.Taken.{Taken}
+use Rattle.numbers.specs.Taken.{Cut, Bad}
 
 unfoldable pub number_of : Stored → ℕ
-number_of (Size n) = 0
-number_of (Room n) = 8
+number_of (Ok n) = 0
+number_of (Err short) = 8
 
 unfoldable pub value_of : Stored → ℕ
-value_of (Size n) = n
-value_of (Room n) = n
+value_of (Ok n) = n
+value_of (Err short) = short.size
 
 unfoldable pub number_of_taken : Taken → ℕ
-number_of_taken (Value n t) = 0
+number_of_taken (Ok taken) = 0
 number_of_taken Cut = 11
 number_of_taken Bad = 13

@@ -1,4 +1,5 @@
 pub mod Below
 pub mod Over
+pub mod Sequence
 pub mod Sequences
 pub mod Windows

@@ -5,22 +5,17 @@ ghost use Rattle.numbers.specs.inside.Sequences.{follows, Ends};
 ghost use Rattle.numbers.specs.inside.Windows.{All, Begun, Ended, First, Known, Later, Placed, Windows};
 ghost use Rattle.numbers.specs.Text.{◌to◌, spelling_of, text};
 
-// What a name is.
+// Why a name is not well-formed UTF-8: the offset of the first byte at which no well-formed name can go on, its length where it merely
+// ends early.
 #[derive(Clone, Copy)]
-pub enum Spelling {
-    // Well-formed UTF-8.
-    Right,
-    // It is not: the offset of the first byte at which no well-formed name can go on, its length where it merely ends early.
-    Stops(usize),
+pub struct NotText {
+    pub stop: usize,
 }
 
-// A byte sequence of a name.
+// Why no sequence stands at a place: so many bytes of one do, and then a byte that cannot stand there, or the name's end.
 #[derive(Clone, Copy)]
-enum Sequence {
-    // A well-formed one, of so many bytes.
-    Whole(usize),
-    // None: so many bytes of one, and then a byte that cannot stand there, or the name's end.
-    Breaks(usize),
+struct Breaks {
+    after: usize,
 }
 
 // Whether the name has a byte at k, and it is in low..high.
@@ -37,28 +32,28 @@ fn follows(name: &[u8], k: usize, low: u8, high: u8) -> bool
 }
 
 // A sequence at i of two bytes, from its second on: the range of that.
-fn two(name: &[u8], i: usize, low2: u8, high2: u8) -> Sequence
+fn two(name: &[u8], i: usize, low2: u8, high2: u8) -> Result<usize, Breaks>
     requires { i < length name.now }
     ensures { Ends (low2 to high2 ∷ []) name.now (i + 1) i result }
 {
     if follows(name, i + 1, low2, high2) {
-        return Sequence::Whole(2);
+        return Ok(2);
     }
-    Sequence::Breaks(1)
+    Err(Breaks { after: 1 })
 }
 
 // One of three bytes: the ranges of the second and of the third.
-fn three(name: &[u8], i: usize, low2: u8, high2: u8, low3: u8, high3: u8) -> Sequence
+fn three(name: &[u8], i: usize, low2: u8, high2: u8, low3: u8, high3: u8) -> Result<usize, Breaks>
     requires { i < length name.now }
     ensures { Ends (low2 to high2 ∷ low3 to high3 ∷ []) name.now (i + 1) i result }
 {
     if follows(name, i + 1, low2, high2) {
         if follows(name, i + 2, low3, high3) {
-            return Sequence::Whole(3);
+            return Ok(3);
         }
-        return Sequence::Breaks(2);
+        return Err(Breaks { after: 2 });
     }
-    Sequence::Breaks(1)
+    Err(Breaks { after: 1 })
 }
 
 // One of four bytes: the ranges of the second, third and fourth.
@@ -71,29 +66,29 @@ fn four(
     high3: u8,
     low4: u8,
     high4: u8,
-) -> Sequence
+) -> Result<usize, Breaks>
     requires { i < length name.now }
     ensures { Ends (low2 to high2 ∷ low3 to high3 ∷ low4 to high4 ∷ []) name.now (i + 1) i result }
 {
     if follows(name, i + 1, low2, high2) {
         if follows(name, i + 2, low3, high3) {
             if follows(name, i + 3, low4, high4) {
-                return Sequence::Whole(4);
+                return Ok(4);
             }
-            return Sequence::Breaks(3);
+            return Err(Breaks { after: 3 });
         }
-        return Sequence::Breaks(2);
+        return Err(Breaks { after: 2 });
     }
-    Sequence::Breaks(1)
+    Err(Breaks { after: 1 })
 }
 
 // The sequence that begins at i: an arm for each line of the table, with the ranges of its bytes as printed.
-fn sequence_at(name: &[u8], i: usize) -> Sequence
+fn sequence_at(name: &[u8], i: usize) -> Result<usize, Breaks>
     requires { i < length name.now }
     ensures { Ends [] name.now i i result }
 {
     match name[i] {
-        0x00..=0x7f => Sequence::Whole(1),
+        0x00..=0x7f => Ok(1),
         0xc2..=0xdf => two(name, i, 0x80, 0xbf),
         0xe0 => three(name, i, 0xa0, 0xbf, 0x80, 0xbf),
         0xe1..=0xec => three(name, i, 0x80, 0xbf, 0x80, 0xbf),
@@ -102,36 +97,33 @@ fn sequence_at(name: &[u8], i: usize) -> Sequence
         0xf0 => four(name, i, 0x90, 0xbf, 0x80, 0xbf, 0x80, 0xbf),
         0xf1..=0xf3 => four(name, i, 0x80, 0xbf, 0x80, 0xbf, 0x80, 0xbf),
         0xf4 => four(name, i, 0x80, 0x8f, 0x80, 0xbf, 0x80, 0xbf),
-        _ => Sequence::Breaks(0),
+        _ => Err(Breaks { after: 0 }),
     }
 }
 
 // What the name is, sequence by sequence.
-fn spelled(name: &[u8]) -> Spelling
+fn spelled(name: &[u8]) -> Result<(), NotText>
     ensures { result ≡ spelling_of name.now }
 {
     let mut i: usize = 0;
     while i < name.len() {
         match sequence_at(name, i) {
-            Sequence::Whole(n) => {
+            Ok(n) => {
                 i += n;
             }
-            Sequence::Breaks(n) => {
-                return Spelling::Stops(i + n);
+            Err(Breaks { after }) => {
+                return Err(NotText { stop: i + after });
             }
         }
     }
-    Spelling::Right
+    Ok(())
 }
 
 // Whether it is well-formed UTF-8, sequence by sequence.
 fn well_formed(name: &[u8]) -> bool
     ensures { result ≡ text name.now }
 {
-    match spelled(name) {
-        Spelling::Right => true,
-        Spelling::Stops(n) => false,
-    }
+    spelled(name).is_ok()
 }
 
 // The largest of the n bytes from `from` on.
@@ -140,12 +132,10 @@ fn top(s: &[u8], from: usize, n: usize) -> u8
     ensures { Below (result + 1) s.now from (from + n) }
 {
     let mut high: u8 = 0;
-    let mut k: usize = 0;
-    while k < n {
+    for k in 0..n {
         if high < s[from + k] {
             high = s[from + k];
         }
-        k += 1;
     }
     high
 }
@@ -281,8 +271,7 @@ fn windows(s: &[u8], h: usize, i: usize, j: usize, n: usize) -> u8
     ensures { result < 1 → Windows s.now h n × (Windows s.now i n × Windows s.now j n) }
 {
     let mut high: u8 = 0;
-    let mut k: usize = 0;
-    while k < n {
+    for k in 0..n {
         let place = largest(
             misplaced_at(s, h + k),
             misplaced_at(s, i + k),
@@ -293,7 +282,6 @@ fn windows(s: &[u8], h: usize, i: usize, j: usize, n: usize) -> u8
             place,
             unknown(s[h + k + 2], s[i + k + 2], s[j + k + 2]),
         );
-        k += 1;
     }
     high
 }
@@ -391,11 +379,11 @@ pub fn is_text(name: &[u8]) -> bool
 }
 
 // Whether the name is well-formed UTF-8, and where it stops if not.
-pub fn spelling_of(name: &[u8]) -> Spelling
+pub fn spelling_of(name: &[u8]) -> Result<(), NotText>
     ensures { result ≡ spelling_of name.now }
 {
     if other_text(&name[0..]) {
-        return Spelling::Right;
+        return Ok(());
     }
     spelled(&name[0..])
 }

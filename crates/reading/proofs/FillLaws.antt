@@ -1,5 +1,7 @@
 -- Loops of straight reading that store the words of groups: what is due of the groups, stored where the loop stands, leaves what the
 -- whole leaves; the words of a group, stored one by one; and the words of a name whose bytes were seen to be right.
+use Rattle.std.specs.Prelude.{Err, Ok, Some, IsSome}
+use Rattle.numbers.specs.declared.leb.Number.{Number}
 use Prim.Native.Nat.{ℕ, suc, ◌+◌, ◌-◌, ◌*◌, ◌≤◌, ◌<◌, ◌^◌}
 use native.Mathlib.Nat.{suc-mul}
 use native.Mathlib.Numerals.{add-one}
@@ -10,8 +12,8 @@ use mathlib.Core.List.{List, [], ◌∷◌, ◌++◌, append_assoc, append-nil}
 use lib.Dec.{leb}
 use lib.ListN.{length, take, drop, set, length-append, length-drop}
 use lib.Seq.{sets, length-sets, drop-drop}
-use Rattle.numbers.specs.declared.leb.Taken.{Taken}
-use Rattle.numbers.specs.declared.leb.Taken.TheVariants as taken
+use Rattle.numbers.specs.Taken.{Taken}
+use Rattle.numbers.specs.Taken as taken
 use Rattle.numbers.specs.Integers.{u32}
 use Rattle.numbers.specs.Leb.{take_unsigned}
 use Rattle.numbers.specs.Seen.{seen}
@@ -21,8 +23,8 @@ use Rattle.numbers.proofs.BytesLaws.{sets_append}
 use Rattle.numbers.proofs.SeenLaws.{index-small}
 use Rattle.fields.specs.declared.Field.{Field}
 use Rattle.fields.specs.declared.Field.TheVariants as field
-use Rattle.fields.specs.declared.Leaf.{Leaf}
-use Rattle.fields.specs.declared.Leaf.TheVariants.{Fine, Bad}
+use Rattle.fields.specs.Leaf.{Leaf}
+use Rattle.fields.specs.Leaf.{Fine, Bad}
 use Rattle.fields.specs.declared.Refusal.TheVariants.{Text}
 use Rattle.reading.specs.Fill.{value_in, size_in, fill_name, fill}
 use Rattle.fields.specs.Answers.{offset_of}
@@ -34,6 +36,7 @@ use Rattle.fields.specs.Walk.{next, took}
 use Rattle.reading.proofs.FilledLaws.{fill-length}
 use Rattle.reading.proofs.ScanLaws.{Within, scan-within}
 use Rattle.reading.specs.inside.Steps.{scans, fills, end_of}
+use Rattle.fields.proofs.OutcomeLaws.{fine-same}
 use Rattle.numbers.proofs.Impossible.{impossible}
 
 -- ---- words stored
@@ -84,33 +87,33 @@ module _ (g : ℕ) (input : List ℕ) where
           ≡ end_of (along (scan 1 g) fs (drop (at + t) input) (at + t) (b + m)))
           → end_of (next l (λ t m. along (scan 1 g) fs (drop t (drop at input)) (at + t) (a + m)) at)
           ≡ end_of (next l (λ t m. along (scan 1 g) fs (drop t (drop at input)) (at + t) (b + m)) at)
-      go (Fine t m) ih = rw (drop-drop t at input) (ih t m)
-      go (Bad w j) ih = refl
+      go (Ok span) ih = rw (drop-drop span.took at input) (ih span.took span.made)
+      go (Err fault) ih = refl
 
   -- past a field that is right the rest is right
-  right_step : (f : Field) (fs : List Field) (at t m : ℕ) → 0 < end_of (scans g input (f ∷ fs) at 0) → scan 1 g f (drop at input) ≡ Fine t m
-      → 0 < end_of (scans g input fs (at + t) 0)
+  right_step : (f : Field) (fs : List Field) (at t m : ℕ) → IsSome (end_of (scans g input (f ∷ fs) at 0)) → scan 1 g f (drop at input) ≡ Fine t m
+      → IsSome (end_of (scans g input fs (at + t) 0))
   right_step f fs at t m h e =
       let same : end_of (scans g input (f ∷ fs) at 0) ≡ end_of (scans g input fs (at + t) 0) =
       ap end_of (scans_step f fs at 0 t m e) ∙ end_same fs (at + t) (0 + m) 0 in
-      subst (λ k. 0 < k) same h
+      subst (λ k. IsSome k) same h
 
   -- the first field of a run that is right is right
-  right_first : (f : Field) (fs : List Field) (at : ℕ) → 0 < end_of (scans g input (f ∷ fs) at 0) → at ≤ length input → Stands g input f at
+  right_first : (f : Field) (fs : List Field) (at : ℕ) → IsSome (end_of (scans g input (f ∷ fs) at 0)) → at ≤ length input → Stands g input f at
   unfolding along end_of
   right_first f fs at h b = go (scan 1 g f (drop at input)) refl (scan-within 1 g f (drop at input)) h
     where
       go : (l : Leaf) → scan 1 g f (drop at input) ≡ l → Within l (length (drop at input)) (wide f)
-          → 0 < end_of (next l (λ t m. along (scan 1 g) fs (drop t (drop at input)) (at + t) (0 + m)) at) → Stands g input f at
-      go (Fine t m) e w h =
-          record { t = t; m = m; is = e; within = w.0; ends = omega (arith, w.0, length-drop at input) }
-      go (Bad w j) e b h = absurd (omega arith)
+          → IsSome (end_of (next l (λ t m. along (scan 1 g) fs (drop t (drop at input)) (at + t) (0 + m)) at)) → Stands g input f at
+      go (Ok span) e w h =
+          record { t = span.took; m = span.made; is = e; within = w.0; ends = omega (arith, w.0, length-drop at input) }
+      go (Err fault) e b h = impossible cc
 
 -- ---- groups that a loop stores: `due` are still to be stored, from `at` of the input on, at `to` of the row
 
 pub record Filling (g : ℕ) (input : List ℕ) (gs : List Field) (n from : ℕ) (first : List ℕ) (base due at to : ℕ) (row : List ℕ)
     : Type 0 where
-  pub right : 0 < end_of (scans g input (repeated due gs) at 0)
+  pub right : IsSome (end_of (scans g input (repeated due gs) at 0))
   pub inside : at ≤ length input
   pub room : to + due * widths gs ≤ length row
   pub same_size : length row ≡ length first
@@ -119,7 +122,7 @@ pub record Filling (g : ℕ) (input : List ℕ) (gs : List Field) (n from : ℕ)
 
 module _ {g : ℕ} {input : List ℕ} {gs : List Field} {n from : ℕ} {first : List ℕ} {base : ℕ} where
   -- before the first group
-  pub filling_start : from ≤ length input → base + n * widths gs ≤ length first → 0 < end_of (scans g input (repeated n gs) from 0)
+  pub filling_start : from ≤ length input → base + n * widths gs ≤ length first → IsSome (end_of (scans g input (repeated n gs) from 0))
       → Filling g input gs n from first base n from base first
   filling_start h b r = record { right = r; inside = h; room = b; same_size = refl; whole = λ last w. w }
 
@@ -131,6 +134,11 @@ module _ {g : ℕ} {input : List ℕ} {gs : List Field} {n from : ℕ} {first : 
       let e : 0 ≡ due = omega arith in
       k.whole row (ap (λ j. sets row to (fills g input (repeated j gs) at)) e)
 
+  -- the same count under another name
+  pub filling_due : {due due' at to : ℕ} {row : List ℕ} → Filling g input gs n from first base due at to row → due ≡ due'
+      → Filling g input gs n from first base due' at to row
+  filling_due {at = at} {to} {row} k e = subst (λ d. Filling g input gs n from first base d at to row) e k
+
   -- the same places under other names
   pub filling_as : {due at to at' to' : ℕ} {row : List ℕ} → Filling g input gs n from first base due at to row → at ≡ at' → to ≡ to'
       → Filling g input gs n from first base due at' to' row
@@ -141,11 +149,11 @@ module _ {g : ℕ} {input : List ℕ} {gs : List Field} {n from : ℕ} {first : 
 module _ {g : ℕ} {input : List ℕ} {f h : Field} {n from : ℕ} {first : List ℕ} {base : ℕ} where
   -- the groups that are due, the first of them by its fields
   left_right : {due at to : ℕ} {row : List ℕ} → Filling g input (f ∷ h ∷ []) n from first base due at to row → 0 < due
-      → 0 < end_of (scans g input (f ∷ (h ∷ repeated (due - 1) (f ∷ h ∷ []))) at 0)
+      → IsSome (end_of (scans g input (f ∷ (h ∷ repeated (due - 1) (f ∷ h ∷ []))) at 0))
   unfolding repeated
   left_right {due} {at} k some =
       let p : due ≡ suc (due - 1) = omega arith in
-      subst (λ j. 0 < end_of (scans g input (repeated j (f ∷ h ∷ [])) at 0)) p k.right
+      subst (λ j. IsSome (end_of (scans g input (repeated j (f ∷ h ∷ [])) at 0))) p k.right
 
   -- the first field of the next group is right
   pub filling_first : {due at to : ℕ} {row : List ℕ} → Filling g input (f ∷ h ∷ []) n from first base due at to row → 0 < due
@@ -238,26 +246,38 @@ set_four row to a b c d =
     let three : to + 3 ≡ suc (suc (suc to)) = omega arith in
     rw (add-one, two, three)
 
--- ---- a name that is right: its length has 1 to 5 bytes, and its words are its start and its length
+-- ---- a name that is right: its length is seen
 
-pub name_words : (g at : ℕ) (bs : List ℕ) (t m : ℕ) → scan 1 g field.Name bs ≡ Fine t m
-    → (0 < (seen (take_unsigned bs)).took) × ((seen (take_unsigned bs)).took ≤ 5) × ((seen (take_unsigned bs)).value < 2 ^ 32)
-    × (t ≡ (seen (take_unsigned bs)).took + (seen (take_unsigned bs)).value)
-    × (fill g field.Name at bs ≡ (at + (seen (take_unsigned bs)).took) ∷ (seen (take_unsigned bs)).value ∷ [])
+pub name_seen : (g : ℕ) (bs : List ℕ) (t m : ℕ) → scan 1 g field.Name bs ≡ Fine t m → IsSome (seen (take_unsigned bs))
+unfolding scan scan_name
+name_seen g bs t m e = go (take_unsigned bs) e
+  where
+    go : (x : Taken) → named bs x ≡ Fine t m → IsSome (seen x)
+    go (Ok taken2) e = refl
+    go taken.Cut e = impossible cc
+    go taken.Bad e = impossible cc
+
+-- it has 1 to 5 bytes, and the name's words are its start and its length
+pub name_words : (g at : ℕ) (bs : List ℕ) (t m : ℕ) → scan 1 g field.Name bs ≡ Fine t m → (r : Number) → seen (take_unsigned bs) ≡ Some r
+    → (0 < r.took) × (r.took ≤ 5) × (r.value < 2 ^ 32) × (t ≡ r.took + r.value)
+    × (fill g field.Name at bs ≡ (at + r.took) ∷ r.value ∷ [])
 unfolding scan scan_name fill fill_name
-name_words g at bs t m e = go (take_unsigned bs) refl e
+name_words g at bs t m e r d = go (take_unsigned bs) refl e d
   where
     fits : (n k byte : ℕ) (p q : Bool) → cond p (cond q (Fine (k + n) 2) (Bad (Text (offset_of byte)) k)) (cut bs) ≡ Fine t m → t ≡ k + n
-    fits n k byte true true e = cc
+    fits n k byte true true e = sym (fine-same e).0
     fits n k byte true false e = impossible cc
     fits n k byte false q e = impossible cc
 
-    go : (x : Taken) → take_unsigned bs ≡ x → named bs x ≡ Fine t m
-        → (0 < (seen x).took) × ((seen x).took ≤ 5) × ((seen x).value < 2 ^ 32) × (t ≡ (seen x).took + (seen x).value)
-        × ((at + (0 + size_in x)) ∷ value_in x ∷ [] ≡ (at + (seen x).took) ∷ (seen x).value ∷ [])
-    go (taken.Value n k) x e =
-        let b = taken-inside u32 bs n k x in
-        let start : at + (0 + k) ≡ at + k = omega arith in
-        (b.0, b.1, index-small bs n k x, fits n k (stop (take n (drop k bs))) (leb (k + n) (length bs)) (text (take n (drop k bs))) e, ap (λ j. j ∷ n ∷ []) start)
-    go taken.Cut x e = impossible cc
-    go taken.Bad x e = impossible cc
+    go : (x : Taken) → take_unsigned bs ≡ x → named bs x ≡ Fine t m → seen x ≡ Some r
+        → (0 < r.took) × (r.took ≤ 5) × (r.value < 2 ^ 32) × (t ≡ r.took + r.value)
+        × ((at + (0 + size_in x)) ∷ value_in x ∷ [] ≡ (at + r.took) ∷ r.value ∷ [])
+    go (Ok taken2) x e d =
+        let b = taken-inside u32 bs taken2.value taken2.took x in
+        let start : at + (0 + taken2.took) ≡ at + taken2.took = omega arith in
+        let same : taken2 ≡ r = cc in
+        subst (λ (y : Number). (0 < y.took) × (y.took ≤ 5) × (y.value < 2 ^ 32) × (t ≡ y.took + y.value)
+        × ((at + (0 + taken2.took)) ∷ taken2.value ∷ [] ≡ (at + y.took) ∷ y.value ∷ [])) same
+        (b.0, b.1, index-small bs taken2.value taken2.took x, fits taken2.value taken2.took (stop (take taken2.value (drop taken2.took bs))) (leb (taken2.took + taken2.value) (length bs)) (text (take taken2.value (drop taken2.took bs))) e, ap (λ j. j ∷ taken2.value ∷ []) start)
+    go taken.Cut x e d = impossible cc
+    go taken.Bad x e d = impossible cc

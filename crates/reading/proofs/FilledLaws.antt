@@ -1,4 +1,5 @@
 -- The words of an item: how many a field fills, and that a walk counts them and ends inside the input.
+use Rattle.std.specs.Prelude.{Err, Ok}
 use Prim.Native.Nat.{ℕ, ◌+◌, ◌≤◌}
 use native.Mathlib.Omega.{arith}
 use mathlib.Core.Path.{◌≡◌, refl, sym, ap, ◌∙◌, subst}
@@ -10,8 +11,8 @@ use lib.Seq.{drop-drop}
 use Rattle.numbers.specs.Leb.{take_signed}
 use Rattle.fields.specs.declared.Field.{Field}
 use Rattle.fields.specs.declared.Field.TheVariants as field
-use Rattle.fields.specs.declared.Leaf.{Leaf}
-use Rattle.fields.specs.declared.Leaf.TheVariants.{Fine, Bad}
+use Rattle.fields.specs.Leaf.{Leaf}
+use Rattle.fields.specs.Leaf.{Fine}
 use Rattle.reading.specs.Fill.{value_in, index, primitive, fill_value, fill_optional, fill_name, fill_slot, fill_slots, fill_extern, fill_reference, fill, fill_sort_index}
 use Rattle.fields.specs.Words.{wide}
 use Rattle.fields.specs.inside.Run.{along, makes, Under}
@@ -20,6 +21,7 @@ use Rattle.fields.specs.Shape.{widths}
 use Rattle.fields.specs.Walk.{next, took}
 use Rattle.reading.proofs.ScanLaws.{Within, scan-within}
 use Rattle.reading.proofs.ScannedLaws.{scans, scans_under}
+use Rattle.fields.proofs.OutcomeLaws.{fine-same}
 use Rattle.numbers.proofs.Impossible.{impossible}
 
 -- ---- how many words a field fills
@@ -41,11 +43,11 @@ optional-length present bs = cond-length (eqb (byte bs 0) present) (fill_value (
 
 slot-length : (k at : ℕ) (bs : List ℕ) (l : Leaf) → length (fill_slot k at bs l) ≡ 3
 unfolding fill_slot fill_name
-slot-length k at bs (Fine from due) =
+slot-length k at bs (Ok span) =
     let none : List ℕ = 0 ∷ 0 ∷ 0 ∷ [] in
-    let some : List ℕ = 1 ∷ fill_name at bs (from + 1) in
-    cond-length (eqb due 0) none (cond (eqb (byte bs from) k) some none) 3 refl (cond-length (eqb (byte bs from) k) some none 3 refl refl)
-slot-length k at bs (Bad w j) = refl
+    let some : List ℕ = 1 ∷ fill_name at bs (span.took + 1) in
+    cond-length (eqb span.made 0) none (cond (eqb (byte bs span.took) k) some none) 3 refl (cond-length (eqb (byte bs span.took) k) some none 3 refl refl)
+slot-length k at bs (Err fault) = refl
 
 extern_length : (g at : ℕ) (bs : List ℕ) → length (fill_extern g at bs) ≡ 11
 unfolding fill_extern fill_slots fill_name
@@ -104,7 +106,7 @@ module _ (lead g : ℕ) (input : List ℕ) where
   -- a walk that ends counts them
   pub fills_count : (fs : List Field) (at to a m : ℕ) → scans lead g input fs at to ≡ Fine a m → m ≡ to + length (fills fs at)
   unfolding along makes
-  fills_count [] at to a m e = let q : to ≡ m = cc in omega arith
+  fills_count [] at to a m e = let q : to ≡ m = (fine-same e).1 in omega arith
   fills_count (f ∷ fs) at to a m e =
       go (scan lead g f (drop at input)) (scan-within lead g f (drop at input)) e (λ t k. fills_count fs (at + t) (to + k) a m)
     where
@@ -112,11 +114,11 @@ module _ (lead g : ℕ) (input : List ℕ) where
           → next l (λ t k. along (scan lead g) fs (drop t (drop at input)) (at + t) (to + k)) at ≡ Fine a m
           → ((t k : ℕ) → scans lead g input fs (at + t) (to + k) ≡ Fine a m → m ≡ to + k + length (fills fs (at + t)))
           → m ≡ to + length (fill g f at (drop at input) ++ makes (scan lead g) (fill g) fs (at + took l) (drop (took l) (drop at input)))
-      go (Fine t k) w e ih =
-          let h = ih t k (ap (λ l. along (scan lead g) fs l (at + t) (to + k)) (sym (drop-drop t at input)) ∙ e) in
-          rw (drop-drop t at input)
-          (omega (arith, w.1, fill-length g f at (drop at input), length-append (fill g f at (drop at input)) (fills fs (at + t))))
-      go (Bad w j) b e ih = impossible cc
+      go (Ok span) w e ih =
+          let h = ih span.took span.made (ap (λ l. along (scan lead g) fs l (at + span.took) (to + span.made)) (sym (drop-drop span.took at input)) ∙ e) in
+          rw (drop-drop span.took at input)
+          (omega (arith, w.1, fill-length g f at (drop at input), length-append (fill g f at (drop at input)) (fills fs (at + span.took))))
+      go (Err fault) b e ih = impossible cc
 
   -- a walk ends inside the input
   pub scans_inside : (fs : List Field) (at to a m : ℕ) → at ≤ length input → scans lead g input fs at to ≡ Fine a m → a ≤ length input

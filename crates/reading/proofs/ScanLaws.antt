@@ -1,4 +1,5 @@
 -- What is scanned lies inside the input, and makes as many words as the field has.
+use Rattle.std.specs.Prelude.{Err, Ok}
 use Prim.Native.Nat.{ℕ, ◌+◌, ◌-◌, ◌≤◌, ◌<◌}
 use native.Mathlib.Omega.{arith}
 use mathlib.Core.Path.{◌≡◌, refl}
@@ -7,8 +8,8 @@ use mathlib.Core.List.{List}
 use lib.Dec.{eqb, ltb, leb}
 use lib.ListN.{length, take, drop, length-drop}
 use borrow.Author.Tests.{leb-true, leb-false}
-use Rattle.numbers.specs.declared.leb.Taken.{Taken}
-use Rattle.numbers.specs.declared.leb.Taken.TheVariants as taken
+use Rattle.numbers.specs.Taken.{Taken}
+use Rattle.numbers.specs.Taken as taken
 use Rattle.numbers.specs.Integers.{Form, u32, s33}
 use Rattle.numbers.specs.Leb.{take_in, take_unsigned}
 use Rattle.numbers.specs.Text.{text, stop}
@@ -17,8 +18,8 @@ use Rattle.fields.specs.declared.Field.{Field}
 use Rattle.fields.specs.declared.Field.TheVariants as field
 use Rattle.fields.specs.declared.Refusal.{Refusal}
 use Rattle.fields.specs.declared.Refusal.TheVariants.{Text}
-use Rattle.fields.specs.declared.Leaf.{Leaf}
-use Rattle.fields.specs.declared.Leaf.TheVariants.{Fine, Bad}
+use Rattle.fields.specs.Leaf.{Leaf}
+use Rattle.fields.specs.Leaf.{Fine, Bad}
 use Rattle.fields.specs.Answers.{offset_of}
 use Rattle.fields.specs.Words.{indexed, wide}
 use Rattle.reading.specs.inside.Stages.{Inside}
@@ -28,8 +29,8 @@ use Rattle.reading.specs.Scan.{byte, cut, there, asked, past, numbered, scan_ind
 
 -- a field takes at most n bytes and makes w words; a fault stands within n bytes
 abbrev pub Within : Leaf → ℕ → ℕ → Type 0
-Within (Fine t m) n w = (t ≤ n) × (m ≡ w)
-Within (Bad y j) n w = j ≤ n
+Within (Ok span) n w = (span.took ≤ n) × (span.made ≡ w)
+Within (Err fault) n w = fault.value ≤ n
 
 -- the same as data, which follows the tests, with what is made as M says
 pub data Near (n : ℕ) (M : ℕ → Type 0) : Leaf → Type 0 where
@@ -109,7 +110,7 @@ number-near : {end sign : ℕ} → Form end sign → (w : ℕ) (bs : List ℕ) �
 number-near {end} form w bs = go (take_in end bs) refl
   where
     go : (r : Taken) → take_in end bs ≡ r → Near (length bs) (Words w) (numbered bs r w)
-    go (taken.Value n t) e = fine t w (taken-inside form bs n t e).2 refl
+    go (Ok taken2) e = fine taken2.took w (taken-inside form bs taken2.value taken2.took e).2 refl
     go taken.Cut e = cut_near bs
     go taken.Bad e = bad _ 0 (omega arith)
 
@@ -127,7 +128,7 @@ name-near bs = go (take_unsigned bs) refl
     fits n t h false e = cut_near bs
 
     go : (r : Taken) → take_unsigned bs ≡ r → Near (length bs) (Words 2) (named bs r)
-    go (taken.Value n t) e = fits n t (taken-inside u32 bs n t e).2 (leb (t + n) (length bs)) refl
+    go (Ok taken2) e = fits taken2.value taken2.took (taken-inside u32 bs taken2.value taken2.took e).2 (leb (taken2.took + taken2.value) (length bs)) refl
     go taken.Cut e = cut_near bs
     go taken.Bad e = bad _ 0 (omega arith)
 
@@ -184,9 +185,9 @@ unfolding count_at
 count_near bs at h = go (take_unsigned (drop at bs)) refl
   where
     go : (r : Taken) → take_unsigned (drop at bs) ≡ r → Near (length bs) Any (counted (length bs) r at)
-    go (taken.Value n t) e =
-        cond_near (eqb n 0) (bad _ at h)
-        (cond_near (ltb n 4) (fine (at + t) n (omega (arith, length-drop at bs, taken-inside u32 (drop at bs) n t e)) tt) (bad _ at h))
+    go (Ok taken2) e =
+        cond_near (eqb taken2.value 0) (bad _ at h)
+        (cond_near (ltb taken2.value 4) (fine (at + taken2.took) taken2.value (omega (arith, length-drop at bs, taken-inside u32 (drop at bs) taken2.value taken2.took e)) tt) (bad _ at h))
     go taken.Cut e = cut_near bs
     go taken.Bad e = bad _ at h
 

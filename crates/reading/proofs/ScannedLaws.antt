@@ -1,4 +1,6 @@
 -- Scanning in steps: where its walks stay, the count, the opening of a shape, and an item that passes no limit.
+use Rattle.std.specs.Prelude.{Option}
+use Rattle.std.specs.Prelude.{Err, Ok}
 use Prim.Native.Nat.{ℕ, ◌+◌, ◌*◌, ◌^◌, ◌≤◌}
 use native.Mathlib.Nat.{add-zero}
 use native.Mathlib.Omega.{arith}
@@ -9,15 +11,14 @@ use lib.Seq.{drop-drop}
 use borrow.Author.Tests.{le-ltb, ne_eqb}
 use Rattle.numbers.specs.Integers.{u32}
 use Rattle.numbers.specs.Leb.{take_unsigned}
-use Rattle.numbers.specs.declared.leb.Taken.{Taken}
-use Rattle.numbers.specs.declared.leb.Taken.TheVariants as taken
+use Rattle.numbers.specs.Taken.{Taken}
+use Rattle.numbers.specs.Taken as taken
 use Rattle.numbers.proofs.LebLaws.{taken-inside}
 use Rattle.fields.specs.declared.Field.{Field}
 use Rattle.fields.specs.declared.Refusal.{Refusal}
 use Rattle.fields.specs.declared.Refusal.TheVariants.{Cut, Number}
-use Rattle.fields.specs.declared.Leaf.{Leaf}
-use Rattle.fields.specs.declared.Leaf.TheVariants.{Fine, Bad}
-use Rattle.fields.specs.declared.Found.{Found}
+use Rattle.fields.specs.Leaf.{Leaf}
+use Rattle.fields.specs.Leaf.{Fine, Bad}
 use Rattle.fields.specs.declared.Shape.{Shape}
 use Rattle.reading.specs.Fill.{index, fill}
 use Rattle.fields.specs.Words.{wide}
@@ -57,11 +58,11 @@ module _ (lead g : ℕ) (input : List ℕ) where
       go : (l : Leaf) → Within l (length (drop at input)) (wide f)
           → ((t m : ℕ) → at + t ≤ n → Under (scans fs (at + t) (made + m)) n (made + m + widths fs))
           → Under (next l (λ t m. along (scan lead g) fs (drop t (drop at input)) (at + t) (made + m)) at) n (made + (wide f + widths fs))
-      go (Fine t m) w ih =
+      go (Ok span) w ih =
           let size = length-drop at input in
-          rw (drop-drop t at input)
-          (under_more (scans fs (at + t) (made + m)) _ _ _ _ (ih t m (omega arith)) (omega arith) (omega arith))
-      go (Bad w j) b ih = tt
+          rw (drop-drop span.took at input)
+          (under_more (scans fs (at + span.took) (made + span.made)) _ _ _ _ (ih span.took span.made (omega arith)) (omega arith) (omega arith))
+      go (Err fault) b ih = tt
 
   -- fields after what was scanned before them: each makes 11 words at most
   pub after_under : (so : Leaf) (fs : List Field) (l : Leaf) → l ≡ after so (scans fs) → (n b d : ℕ) → length input ≤ n → Under so n b
@@ -69,10 +70,10 @@ module _ (lead g : ℕ) (input : List ℕ) where
   after_under so fs l e n b d k u q = subst (λ l. Under l n d) (sym e) (go so u)
     where
       go : (so : Leaf) → Under so n b → Under (after so (scans fs)) n d
-      go (Fine at made) u =
+      go (Ok span) u =
           let w = widths-small fs in
-          under_more (scans fs at made) _ _ _ _ (scans_under fs at made n (omega arith) k) (omega arith) (omega arith)
-      go (Bad w j) u = tt
+          under_more (scans fs span.took span.made) _ _ _ _ (scans_under fs span.took span.made n (omega arith) k) (omega arith) (omega arith)
+      go (Err fault) u = tt
 
   -- n groups make 22 words each at most
   pub groups_under : (s : Shape) (n at made : ℕ) (l : Leaf) → l ≡ scans (repeated n (group s)) at made → at ≤ length input
@@ -136,7 +137,7 @@ module _ (lead g : ℕ) (input : List ℕ) where
 
 -- ---- an item that passes no limit is what its shape says
 
-pub scanned-item : (found : Found) (lead g : ℕ) (input : List ℕ) → length input ≤ 2 ^ 30 → 1 ≤ g → g ≤ 3 → (length input ≡ 0 → ⊥)
+pub scanned-item : (found : Option Shape) (lead g : ℕ) (input : List ℕ) → length input ≤ 2 ^ 30 → 1 ≤ g → g ≤ 3 → (length input ≡ 0 → ⊥)
     → scanned_item found lead g input ≡ scanned_found found lead g input
 unfolding scanned_item
 scanned-item found lead g input small low high some =

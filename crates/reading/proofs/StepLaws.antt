@@ -1,4 +1,5 @@
 -- Fields read one after the other in straight code: what a step says of its field, and where a run of fields ends.
+use Rattle.std.specs.Prelude.{Err, Ok, Some, None}
 use Prim.Native.Nat.{ℕ, zero, suc, ◌+◌, ◌-◌, ◌≤◌, ◌<◌}
 use native.Mathlib.Nat.{add-zero}
 use native.Mathlib.Omega.{arith}
@@ -8,17 +9,17 @@ use mathlib.Core.List.{List, [], ◌∷◌, ◌++◌}
 use lib.Dec.{eqb, ltb, leb}
 use lib.ListN.{length, take, drop, length-drop}
 use lib.Seq.{drop-drop}
-use Rattle.numbers.specs.declared.leb.Taken.{Taken}
-use Rattle.numbers.specs.declared.leb.Taken.TheVariants as taken
+use Rattle.numbers.specs.Taken.{Taken}
+use Rattle.numbers.specs.Taken as taken
 use Rattle.numbers.specs.Integers.{Form, u32, s33}
 use Rattle.numbers.specs.Leb.{take_in, take_unsigned}
-use Rattle.numbers.specs.Seen.{seen}
+use Rattle.numbers.specs.Seen.{number, seen}
 use Rattle.numbers.specs.Text.{text}
 use Rattle.numbers.proofs.LebLaws.{taken-inside}
 use Rattle.fields.specs.declared.Field.{Field}
 use Rattle.fields.specs.declared.Field.TheVariants as field
-use Rattle.fields.specs.declared.Leaf.{Leaf}
-use Rattle.fields.specs.declared.Leaf.TheVariants.{Fine, Bad}
+use Rattle.fields.specs.Leaf.{Leaf}
+use Rattle.fields.specs.Leaf.{Fine, Bad}
 use Rattle.fields.specs.declared.Refusal.{Refusal}
 use Rattle.fields.specs.Words.{word, indexed, wide}
 use Rattle.reading.specs.Fill.{value_in, size_in, index, fill_name, fill}
@@ -30,13 +31,16 @@ use Rattle.fields.specs.Shape.{repeated, widths}
 use Rattle.fields.specs.Walk.{next, took}
 use Rattle.reading.proofs.FilledLaws.{fill-length}
 use Rattle.reading.proofs.ScannedLaws.{one_takes, scans_under}
-use Rattle.reading.specs.Seen.{one, pair, one_of, pair_of}
+use Rattle.reading.specs.Seen.{one, pair, one_of, pair_of, pair_is}
+use Rattle.reading.specs.declared.Pair.{Pair}
+use Rattle.numbers.specs.declared.leb.Number.{Number}
+use Rattle.numbers.proofs.Impossible.{impossible}
 use Rattle.reading.specs.inside.Steps.{scans, fills, end_of}
 
 -- what was scanned is not right
 abbrev pub Wrong : Leaf → Type 0
-Wrong (Fine a m) = ⊥
-Wrong (Bad w j) = Unit {0}
+Wrong (Ok span) = ⊥
+Wrong (Err fault) = Unit {0}
 
 -- a field that takes bytes where it is right
 abbrev pub Taking : Field → Type 0
@@ -110,88 +114,88 @@ Still field.SortIndex = Unit {0}
 
 -- ---- a field that is right takes at least one byte
 
-data Some : Leaf → Type 0 where
-  fine : (t m : ℕ) → 0 < t → Some (Fine t m)
-  bad : (w : Refusal) (j : ℕ) → Some (Bad w j)
+data Nonempty : Leaf → Type 0 where
+  fine : (t m : ℕ) → 0 < t → Nonempty (Fine t m)
+  bad : (w : Refusal) (j : ℕ) → Nonempty (Bad w j)
 
 -- any answer, behind a byte or more
-cond-some : (b : Bool) {x y : Leaf} → Some x → Some y → Some (cond b x y)
+cond-some : (b : Bool) {x y : Leaf} → Nonempty x → Nonempty y → Nonempty (cond b x y)
 cond-some true p q = p
 cond-some false p q = q
 
-there-some : (bs : List ℕ) (i : ℕ) {l : Leaf} → Some l → Some (there bs i l)
+there-some : (bs : List ℕ) (i : ℕ) {l : Leaf} → Nonempty l → Nonempty (there bs i l)
 there-some bs i p = cond-some (leb (length bs) i) (bad _ _) p
 
-asked-some : (g n j : ℕ) {l : Leaf} → Some l → Some (asked g n j l)
+asked-some : (g n j : ℕ) {l : Leaf} → Nonempty l → Nonempty (asked g n j l)
 asked-some g n j p = cond-some (ltb g n) (bad _ _) p
 
-past-some : (k : ℕ) → 0 < k → (l : Leaf) → Some (past k l)
-past-some k h (Fine t m) = fine (k + t) m (omega arith)
-past-some k h (Bad w j) = bad w (k + j)
+past-some : (k : ℕ) → 0 < k → (l : Leaf) → Nonempty (past k l)
+past-some k h (Ok span) = fine (k + span.took) span.made (omega arith)
+past-some k h (Err fault) = bad fault.why (k + fault.value)
 
-zero-some : (bs : List ℕ) (i : ℕ) {l : Leaf} → Some l → Some (zero_at bs i l)
+zero-some : (bs : List ℕ) (i : ℕ) {l : Leaf} → Nonempty l → Nonempty (zero_at bs i l)
 zero-some bs i p = there-some bs i (cond-some (eqb (byte bs i) 0) p (bad _ _))
 
-either-some : (bs : List ℕ) (a b : ℕ) {l r : Leaf} → Some l → Some r → Some (either bs a l b r)
+either-some : (bs : List ℕ) (a b : ℕ) {l r : Leaf} → Nonempty l → Nonempty r → Nonempty (either bs a l b r)
 either-some bs a b p q = there-some bs 0 (cond-some (eqb (byte bs 0) a) p (cond-some (eqb (byte bs 0) b) q (bad _ _)))
 
-primitive-some : (g b : ℕ) {l : Leaf} → Some l → Some (scan_primitive g b l)
+primitive-some : (g b : ℕ) {l : Leaf} → Nonempty l → Nonempty (scan_primitive g b l)
 unfolding scan_primitive
 primitive-some g b p =
     cond-some (eqb b 0x64) (asked-some g 2 0 p) (cond-some (ltb b 0x73) (bad _ _) (cond-some (ltb b 0x80) p (bad _ _)))
 
-number-some : {end sign : ℕ} → Form end sign → (w : ℕ) (bs : List ℕ) → Some (numbered bs (take_in end bs) w)
+number-some : {end sign : ℕ} → Form end sign → (w : ℕ) (bs : List ℕ) → Nonempty (numbered bs (take_in end bs) w)
 number-some {end} form w bs = go (take_in end bs) refl
   where
-    go : (r : Taken) → take_in end bs ≡ r → Some (numbered bs r w)
-    go (taken.Value n t) e = fine t w (taken-inside form bs n t e).0
+    go : (r : Taken) → take_in end bs ≡ r → Nonempty (numbered bs r w)
+    go (Ok taken2) e = fine taken2.took w (taken-inside form bs taken2.value taken2.took e).0
     go taken.Cut e = bad _ _
     go taken.Bad e = bad _ _
 
-index_some : (w : ℕ) (bs : List ℕ) → Some (scan_index w bs)
+index_some : (w : ℕ) (bs : List ℕ) → Nonempty (scan_index w bs)
 unfolding scan_index
 index_some w bs = number-some u32 w bs
 
-name-some : (bs : List ℕ) → Some (scan_name bs)
+name-some : (bs : List ℕ) → Nonempty (scan_name bs)
 unfolding scan_name
 name-some bs = go (take_unsigned bs) refl
   where
-    go : (r : Taken) → take_unsigned bs ≡ r → Some (named bs r)
-    go (taken.Value n t) e =
-        let h : 0 < t = (taken-inside u32 bs n t e).0 in
-        cond-some (leb (t + n) (length bs)) (cond-some (text (take n (drop t bs))) (fine (t + n) 2 (omega arith)) (bad _ _)) (bad _ _)
+    go : (r : Taken) → take_unsigned bs ≡ r → Nonempty (named bs r)
+    go (Ok taken2) e =
+        let h : 0 < taken2.took = (taken-inside u32 bs taken2.value taken2.took e).0 in
+        cond-some (leb (taken2.took + taken2.value) (length bs)) (cond-some (text (take taken2.value (drop taken2.took bs))) (fine (taken2.took + taken2.value) 2 (omega arith)) (bad _ _)) (bad _ _)
     go taken.Cut e = bad _ _
     go taken.Bad e = bad _ _
 
-value-some : (g : ℕ) (bs : List ℕ) → Some (scan_value g bs)
+value-some : (g : ℕ) (bs : List ℕ) → Nonempty (scan_value g bs)
 unfolding scan_value
 value-some g bs =
     there-some bs 0
     (cond-some (ltb (byte bs 0) 0x40) (fine 1 2 (omega arith))
     (cond-some (ltb (byte bs 0) 0x80) (primitive-some g (byte bs 0) (fine 1 2 (omega arith))) (number-some s33 2 bs)))
 
-optional_some : (g : ℕ) (bs : List ℕ) → Some (scan_optional g bs)
+optional_some : (g : ℕ) (bs : List ℕ) → Nonempty (scan_optional g bs)
 unfolding scan_optional
 optional_some g bs = either-some bs 0x00 0x01 (fine 1 2 (omega arith)) (past-some 1 (omega arith) (scan_value g (drop 1 bs)))
 
-then-zero-some : (bs : List ℕ) (l : Leaf) → Some (then_zero bs l)
-then-zero-some bs (Fine t m) = zero-some bs t (fine (t + 1) m (omega arith))
-then-zero-some bs (Bad w j) = bad w j
+then-zero-some : (bs : List ℕ) (l : Leaf) → Nonempty (then_zero bs l)
+then-zero-some bs (Ok span) = zero-some bs span.took (fine (span.took + 1) span.made (omega arith))
+then-zero-some bs (Err fault) = bad fault.why fault.value
 
-result_some : (g : ℕ) (bs : List ℕ) → Some (scan_result g bs)
+result_some : (g : ℕ) (bs : List ℕ) → Nonempty (scan_result g bs)
 unfolding scan_result
 result_some g bs =
     either-some bs 0x00 0x01 (past-some 1 (omega arith) (scan_value g (drop 1 bs))) (zero-some bs 1 (fine 2 2 (omega arith)))
 
-either-byte-some : (g n a b : ℕ) (bs : List ℕ) → Some (scan_either g n a b bs)
+either-byte-some : (g n a b : ℕ) (bs : List ℕ) → Nonempty (scan_either g n a b bs)
 unfolding scan_either
 either-byte-some g n a b bs = either-some bs a b (fine 1 1 (omega arith)) (asked-some g n 0 (fine 1 1 (omega arith)))
 
-optional-index-some : (bs : List ℕ) → Some (scan_optional_index bs)
+optional-index-some : (bs : List ℕ) → Nonempty (scan_optional_index bs)
 unfolding scan_optional_index
 optional-index-some bs = either-some bs 0x00 0x01 (fine 1 2 (omega arith)) (past-some 1 (omega arith) (scan_index 2 (drop 1 bs)))
 
-choice_some : (g : ℕ) (bs : List ℕ) → Some (scan_choice g bs)
+choice_some : (g : ℕ) (bs : List ℕ) → Nonempty (scan_choice g bs)
 unfolding scan_choice
 choice_some g bs =
     there-some bs 0
@@ -201,46 +205,46 @@ choice_some g bs =
     (bad _ _))
 
 -- extern names: each step hands on a place past the first byte
-onward-some : {l : Leaf} {k : ℕ → ℕ → Leaf} → Some l → ((at due : ℕ) → 0 < at → Some (k at due)) → Some (onward l k)
+onward-some : {l : Leaf} {k : ℕ → ℕ → Leaf} → Nonempty l → ((at due : ℕ) → 0 < at → Nonempty (k at due)) → Nonempty (onward l k)
 onward-some (fine t m h) f = f t m h
 onward-some (bad w j) f = bad w j
 
-string-some : (bs : List ℕ) (at due : ℕ) → 0 < at → Some (string_at bs at due)
+string-some : (bs : List ℕ) (at due : ℕ) → 0 < at → Nonempty (string_at bs at due)
 string-some bs at due h = onward-some (past-some at h (scan_name (drop at bs))) (λ next m k. fine next due k)
 
-count_some : (bs : List ℕ) (at : ℕ) → 0 < at → Some (count_at bs at)
+count_some : (bs : List ℕ) (at : ℕ) → 0 < at → Nonempty (count_at bs at)
 unfolding count_at
 count_some bs at h = go (take_unsigned (drop at bs))
   where
-    go : (r : Taken) → Some (counted (length bs) r at)
-    go (taken.Value n t) = cond-some (eqb n 0) (bad _ _) (cond-some (ltb n 4) (fine (at + t) n (omega arith)) (bad _ _))
+    go : (r : Taken) → Nonempty (counted (length bs) r at)
+    go (Ok taken2) = cond-some (eqb taken2.value 0) (bad _ _) (cond-some (ltb taken2.value 4) (fine (at + taken2.took) taken2.value (omega arith)) (bad _ _))
     go taken.Cut = bad _ _
     go taken.Bad = bad _ _
 
-slot_some : (k : ℕ) (bs : List ℕ) (at due : ℕ) → 0 < at → Some (slot_scan k bs at due)
+slot_some : (k : ℕ) (bs : List ℕ) (at due : ℕ) → 0 < at → Nonempty (slot_scan k bs at due)
 unfolding slot_scan
 slot_some k bs at due h =
     cond-some (eqb due 0) (fine at 0 h)
     (there-some bs at (cond-some (eqb (byte bs at) k) (string-some bs (at + 1) (due - 1) (omega arith)) (fine at due h)))
 
-last_some : (bs : List ℕ) (at due : ℕ) → 0 < at → Some (end_scan bs at due)
+last_some : (bs : List ℕ) (at due : ℕ) → 0 < at → Nonempty (end_scan bs at due)
 unfolding end_scan
 last_some bs at due h = cond-some (eqb due 0) (fine at 11 h) (there-some bs at (bad _ _))
 
-extern_some : (g : ℕ) (bs : List ℕ) → Some (scan_extern g bs)
+extern_some : (g : ℕ) (bs : List ℕ) → Nonempty (scan_extern g bs)
 unfolding scan_extern second_scan first_scan head_scan
 extern_some g bs =
-    let begin : Some (head_scan g bs) =
+    let begin : Nonempty (head_scan g bs) =
     either-some bs 0x00 0x02 (string-some bs 1 0 (omega arith))
     (asked-some g 3 0 (onward-some (string-some bs 1 0 (omega arith)) (λ at due h. count_some bs at h)))
     in
     onward-some (onward-some (onward-some (onward-some begin (slot_some 0x00 bs)) (slot_some 0x01 bs)) (slot_some 0x02 bs)) (last_some bs)
 
-three-some : {l : Leaf} → Some l → Some (three l)
+three-some : {l : Leaf} → Nonempty l → Nonempty (three l)
 three-some (fine t m h) = fine t 3 h
 three-some (bad w j) = bad w j
 
-reference_some : (g : ℕ) (bs : List ℕ) → Some (scan_reference g bs)
+reference_some : (g : ℕ) (bs : List ℕ) → Nonempty (scan_reference g bs)
 unfolding scan_reference scan_module scan_bound
 reference_some g bs =
     there-some bs 0
@@ -253,7 +257,7 @@ reference_some g bs =
     (cond-some (eqb (byte bs 1) 1) (fine 2 3 (omega arith)) (bad _ _))))
     (cond-some (ltb (byte bs 0) 6) (past-some 1 (omega arith) (scan_index 3 (drop 1 bs))) (bad _ _)))))
 
-scan-some : (g : ℕ) (f : Field) (bs : List ℕ) → Taking f → Some (scan 1 g f bs)
+scan-some : (g : ℕ) (f : Field) (bs : List ℕ) → Taking f → Nonempty (scan 1 g f bs)
 unfolding scan scan_argument scan_core_sort_index scan_sort_index scan_module
 scan-some g field.Nothing bs h = absurd h
 scan-some g (field.Fixed b) bs h = there-some bs 0 (cond-some (eqb (byte bs 0) b) (asked-some g 1 0 (fine 1 0 (omega arith))) (bad _ _))
@@ -281,10 +285,10 @@ scan-some g field.SortIndex bs h =
 
 -- an answer that is right takes bytes
 abbrev Moves : Leaf → Type 0
-Moves (Fine t m) = 0 < t
-Moves (Bad w j) = Unit {0}
+Moves (Ok span) = 0 < span.took
+Moves (Err fault) = Unit {0}
 
-moves : {l : Leaf} → Some l → Moves l
+moves : {l : Leaf} → Nonempty l → Moves l
 moves (fine t m h) = h
 moves (bad w j) = tt
 
@@ -309,55 +313,58 @@ two_words (x ∷ []) e = absurd (omega arith)
 two_words (x ∷ y ∷ []) e = refl
 two_words (x ∷ y ∷ z ∷ ws) e = absurd (omega arith)
 
--- a step of two words that takes bytes: its field is right, and these are its words
-pub pair-some : (g : ℕ) (f : Field) (bs : List ℕ) → wide f ≡ 2 → 0 < (pair g f bs).took
-    → (scan 1 g f bs ≡ Fine (pair g f bs).took 2) × (fill g f 0 bs ≡ (pair g f bs).a ∷ (pair g f bs).b ∷ [])
-    × ((pair g f bs).took ≤ length bs)
+-- a step of two words that is right: its field is, and these are its words
+pub pair-some : (g : ℕ) (f : Field) (bs : List ℕ) → wide f ≡ 2 → (v : Pair) → pair g f bs ≡ Some v
+    → (scan 1 g f bs ≡ Fine v.took 2) × (fill g f 0 bs ≡ v.a ∷ v.b ∷ []) × (v.took ≤ length bs)
 unfolding pair_of
-pair-some g f bs w h = go (scan 1 g f bs) (one_takes 1 g f bs (scan 1 g f bs) refl) h
+pair-some g f bs w v h = go (scan 1 g f bs) (one_takes 1 g f bs (scan 1 g f bs) refl) h
   where
     ws : List ℕ
     ws = fill g f 0 bs
 
-    go : (l : Leaf) → ((t m : ℕ) → l ≡ Fine t m → (t ≤ length bs) × (m ≡ wide f)) → 0 < (pair_of l ws).took
-        → (l ≡ Fine (pair_of l ws).took 2) × (ws ≡ (pair_of l ws).a ∷ (pair_of l ws).b ∷ []) × ((pair_of l ws).took ≤ length bs)
-    go (Fine t m) k h =
-        let q = k t m refl in
-        (ap (λ n. Fine t n) (q.1 ∙ w), two_words ws (fill-length g f 0 bs ∙ w), q.0)
-    go (Bad y j) k h = absurd (omega arith)
+    go : (l : Leaf) → ((t m : ℕ) → l ≡ Fine t m → (t ≤ length bs) × (m ≡ wide f)) → pair_of l ws ≡ Some v
+        → (l ≡ Fine v.took 2) × (ws ≡ v.a ∷ v.b ∷ []) × (v.took ≤ length bs)
+    go (Ok span) k h =
+        let q = k span.took span.made refl in
+        let same : pair_is span.took (word ws 0) (word ws 1) ≡ v = cc in
+        subst (λ (x : Pair). (Ok span ≡ Fine x.took 2) × (ws ≡ x.a ∷ x.b ∷ []) × (x.took ≤ length bs)) same
+        (ap (λ n. Fine span.took n) (q.1 ∙ w), two_words ws (fill-length g f 0 bs ∙ w), q.0)
+    go (Err fault) k h = impossible cc
 
--- one that takes none: its field is not right
-pub pair_none : (g : ℕ) (f : Field) (bs : List ℕ) → Taking f → (pair g f bs).took ≡ 0 → Wrong (scan 1 g f bs)
+-- one that is not: its field is not
+pub pair_none : (g : ℕ) (f : Field) (bs : List ℕ) → pair g f bs ≡ None → Wrong (scan 1 g f bs)
 unfolding pair_of
-pair_none g f bs k z = go (scan-some g f bs k) z
+pair_none g f bs z = go (scan 1 g f bs) z
   where
-    go : {l : Leaf} → Some l → (pair_of l (fill g f 0 bs)).took ≡ 0 → Wrong l
-    go (fine t m h) z = absurd (omega arith)
-    go (bad w j) z = tt
+    go : (l : Leaf) → pair_of l (fill g f 0 bs) ≡ None → Wrong l
+    go (Ok span) z = impossible cc
+    go (Err fault) z = tt
 
 -- the same of a step of one word
-pub one-some : (g : ℕ) (f : Field) (bs : List ℕ) → wide f ≡ 1 → 0 < (one g f bs).took
-    → (scan 1 g f bs ≡ Fine (one g f bs).took 1) × (fill g f 0 bs ≡ (one g f bs).value ∷ []) × ((one g f bs).took ≤ length bs)
+pub one-some : (g : ℕ) (f : Field) (bs : List ℕ) → wide f ≡ 1 → (v : Number) → one g f bs ≡ Some v
+    → (scan 1 g f bs ≡ Fine v.took 1) × (fill g f 0 bs ≡ v.value ∷ []) × (v.took ≤ length bs)
 unfolding one_of
-one-some g f bs w h = go (scan 1 g f bs) (one_takes 1 g f bs (scan 1 g f bs) refl) h
+one-some g f bs w v h = go (scan 1 g f bs) (one_takes 1 g f bs (scan 1 g f bs) refl) h
   where
     ws : List ℕ
     ws = fill g f 0 bs
 
-    go : (l : Leaf) → ((t m : ℕ) → l ≡ Fine t m → (t ≤ length bs) × (m ≡ wide f)) → 0 < (one_of l ws).took
-        → (l ≡ Fine (one_of l ws).took 1) × (ws ≡ (one_of l ws).value ∷ []) × ((one_of l ws).took ≤ length bs)
-    go (Fine t m) k h =
-        let q = k t m refl in
-        (ap (λ n. Fine t n) (q.1 ∙ w), one_word ws (fill-length g f 0 bs ∙ w), q.0)
-    go (Bad y j) k h = absurd (omega arith)
+    go : (l : Leaf) → ((t m : ℕ) → l ≡ Fine t m → (t ≤ length bs) × (m ≡ wide f)) → one_of l ws ≡ Some v
+        → (l ≡ Fine v.took 1) × (ws ≡ v.value ∷ []) × (v.took ≤ length bs)
+    go (Ok span) k h =
+        let q = k span.took span.made refl in
+        let same : number (word ws 0) span.took ≡ v = cc in
+        subst (λ (x : Number). (Ok span ≡ Fine x.took 1) × (ws ≡ x.value ∷ []) × (x.took ≤ length bs)) same
+        (ap (λ n. Fine span.took n) (q.1 ∙ w), one_word ws (fill-length g f 0 bs ∙ w), q.0)
+    go (Err fault) k h = impossible cc
 
-pub one_none : (g : ℕ) (f : Field) (bs : List ℕ) → Taking f → (one g f bs).took ≡ 0 → Wrong (scan 1 g f bs)
+pub one_none : (g : ℕ) (f : Field) (bs : List ℕ) → one g f bs ≡ None → Wrong (scan 1 g f bs)
 unfolding one_of
-one_none g f bs k z = go (scan-some g f bs k) z
+one_none g f bs z = go (scan 1 g f bs) z
   where
-    go : {l : Leaf} → Some l → (one_of l (fill g f 0 bs)).took ≡ 0 → Wrong l
-    go (fine t m h) z = absurd (omega arith)
-    go (bad w j) z = tt
+    go : (l : Leaf) → one_of l (fill g f 0 bs) ≡ None → Wrong l
+    go (Ok span) z = impossible cc
+    go (Err fault) z = tt
 
 -- an index is the number that is seen
 pub index-one : (g : ℕ) (bs : List ℕ) → seen (take_unsigned bs) ≡ one g field.Index bs
@@ -368,7 +375,7 @@ index-one g bs = go (take_unsigned bs)
     valued r = value_in r ∷ []
 
     go : (r : Taken) → seen r ≡ one_of (numbered bs r 1) (valued r)
-    go (taken.Value n t) = refl
+    go (Ok taken2) = refl
     go taken.Cut = refl
     go taken.Bad = refl
 
@@ -424,8 +431,8 @@ module _ {L M : Field → List ℕ → Leaf} {B C : Field → ℕ → List ℕ �
     where
       go : (a : Leaf) → ((t m : ℕ) → along L fs (drop t xs) (at + t) (made + m) ≡ along M fs (drop t xs) (at + t) (made + m))
           → next a (λ t m. along L fs (drop t xs) (at + t) (made + m)) at ≡ next a (λ t m. along M fs (drop t xs) (at + t) (made + m)) at
-      go (Fine t m) ih = ih t m
-      go (Bad w j) ih = refl
+      go (Ok span) ih = ih span.took span.made
+      go (Err fault) ih = refl
 
   makes_agree : (fs : List Field) → Agree L M B C fs → (at : ℕ) (xs : List ℕ) → makes L B fs at xs ≡ makes M C fs at xs
   unfolding makes
@@ -517,8 +524,8 @@ alike g (f ∷ fs) xs at p q =
         (along (scan 1 g) fs (drop t xs) (at + t) (q + m)))
         → Alike at p q (wide f + widths fs) (next l (λ t m. along (scan 1 g) fs (drop t xs) (at + t) (p + m)) at)
         (next l (λ t m. along (scan 1 g) fs (drop t xs) (at + t) (q + m)) at)
-    go (Fine t m) k ih = further t m (wide f) (k t m refl).1 (ih t m)
-    go (Bad w j) k ih = bad w _ _
+    go (Ok span) k ih = further span.took span.made (wide f) (k span.took span.made refl).1 (ih span.took span.made)
+    go (Err fault) k ih = bad fault.why _ _
 
 module _ (g : ℕ) (input : List ℕ) where
   -- the words made before do not tell
@@ -540,13 +547,13 @@ module _ (g : ℕ) (input : List ℕ) where
       ∙ end_made fs (at + t) (made + m) made
 
   pub end_bad : (f : Field) (fs : List Field) (at made : ℕ) → Wrong (scan 1 g f (drop at input))
-      → end_of (scans g input (f ∷ fs) at made) ≡ 0
+      → end_of (scans g input (f ∷ fs) at made) ≡ None
   unfolding along end_of
   end_bad f fs at made h = go (scan 1 g f (drop at input)) h
     where
-      go : (l : Leaf) → Wrong l → end_of (next l (λ t m. along (scan 1 g) fs (drop t (drop at input)) (at + t) (made + m)) at) ≡ 0
-      go (Fine t m) h = absurd h
-      go (Bad w j) h = refl
+      go : (l : Leaf) → Wrong l → end_of (next l (λ t m. along (scan 1 g) fs (drop t (drop at input)) (at + t) (made + m)) at) ≡ None
+      go (Ok span) h = absurd h
+      go (Err fault) h = refl
 
   pub end_nothing : (fs : List Field) (at made : ℕ) → end_of (scans g input (field.Nothing ∷ fs) at made) ≡ end_of (scans g input fs at made)
   unfolding scan
@@ -554,36 +561,36 @@ module _ (g : ℕ) (input : List ℕ) where
       end_step field.Nothing fs at made 0 0 refl ∙ ap (λ n. end_of (scans g input fs n made)) (add-zero at)
 
   -- no field
-  pub end_done : (at made : ℕ) → end_of (scans g input [] at made) ≡ at
+  pub end_done : (at made : ℕ) → end_of (scans g input [] at made) ≡ Some at
   unfolding along end_of
   end_done at made = refl
 
   -- the end lies inside the input
-  pub end_inside : (fs : List Field) (at made : ℕ) → at ≤ length input → end_of (scans g input fs at made) ≤ length input
+  pub end_inside : (fs : List Field) (at made end : ℕ) → at ≤ length input → end_of (scans g input fs at made) ≡ Some end → end ≤ length input
   unfolding end_of
-  end_inside fs at made h = go (scans g input fs at made) (scans_under 1 g input fs at made (length input) h (omega arith))
+  end_inside fs at made end h e = go (scans g input fs at made) (scans_under 1 g input fs at made (length input) h (omega arith)) e
     where
-      go : (l : Leaf) → Under l (length input) (made + widths fs) → end_of l ≤ length input
-      go (Fine a m) u = u.0
-      go (Bad w j) u = omega arith
+      go : (l : Leaf) → Under l (length input) (made + widths fs) → end_of l ≡ Some end → end ≤ length input
+      go (Ok span) u e = let same : span.took ≡ end = cc in omega (arith, u.0, same)
+      go (Err fault) u e = impossible cc
 
   -- fields that end are right, and make their words
-  pub end_fine : (fs : List Field) (at made : ℕ) → 0 < end_of (scans g input fs at 0)
-      → scans g input fs at made ≡ Fine (end_of (scans g input fs at 0)) (made + widths fs)
+  pub end_fine : (fs : List Field) (at made end : ℕ) → end_of (scans g input fs at 0) ≡ Some end
+      → scans g input fs at made ≡ Fine end (made + widths fs)
   unfolding end_of
-  end_fine fs at made h = go (alike g fs (drop at input) at 0 made) h
+  end_fine fs at made end e = go (alike g fs (drop at input) at 0 made) e
     where
-      go : {l k : Leaf} → Alike at 0 made (widths fs) l k → 0 < end_of l → k ≡ Fine (end_of l) (made + widths fs)
-      go (fine a m n h i j) p = ap (λ x. Fine a x) j
-      go (bad y i j) p = absurd (omega arith)
+      go : {l k : Leaf} → Alike at 0 made (widths fs) l k → end_of l ≡ Some end → k ≡ Fine end (made + widths fs)
+      go (fine a m n h i j) e = let same : a ≡ end = cc in (λ p. Fine (same p) (j p))
+      go (bad y i j) e = impossible cc
 
   -- fields that do not are not
-  pub end_wrong : (fs : List Field) (at made : ℕ) → 0 < at → end_of (scans g input fs at 0) ≡ 0 → Wrong (scans g input fs at made)
+  pub end_wrong : (fs : List Field) (at made : ℕ) → end_of (scans g input fs at 0) ≡ None → Wrong (scans g input fs at made)
   unfolding end_of
-  end_wrong fs at made h e = go (alike g fs (drop at input) at 0 made) e
+  end_wrong fs at made e = go (alike g fs (drop at input) at 0 made) e
     where
-      go : {l k : Leaf} → Alike at 0 made (widths fs) l k → end_of l ≡ 0 → Wrong k
-      go (fine a m n k i j) e = absurd (omega arith)
+      go : {l k : Leaf} → Alike at 0 made (widths fs) l k → end_of l ≡ None → Wrong k
+      go (fine a m n k i j) e = impossible cc
       go (bad y i j) e = tt
 
 -- ---- a loop over groups that counts down
@@ -599,15 +606,19 @@ repeated-more (suc n) gs h =
 -- from `at` on, `due` groups end where the n groups from `from` on do
 pub record Going (g : ℕ) (input : List ℕ) (gs : List Field) (n from due at : ℕ) : Type 0 where
   pub same : end_of (scans g input (repeated due gs) at 0) ≡ end_of (scans g input (repeated n gs) from 0)
-  pub place : 0 < at
   pub inside : at ≤ length input
 
-pub going_start : {g : ℕ} {input : List ℕ} {gs : List Field} {n from : ℕ} → 0 < from → from ≤ length input → Going g input gs n from n from
-going_start h k = record { same = refl; place = h; inside = k }
+pub going_start : {g : ℕ} {input : List ℕ} {gs : List Field} {n from : ℕ} → from ≤ length input → Going g input gs n from n from
+going_start h = record { same = refl; inside = h }
+
+-- the same count under another name
+pub going_as : {g : ℕ} {input : List ℕ} {gs : List Field} {n from due due' at : ℕ} → Going g input gs n from due at → due ≡ due'
+    → Going g input gs n from due' at
+going_as {g} {input} {gs} {n} {from} {at = at} k e = subst (λ d. Going g input gs n from d at) e k
 
 -- no group is due
 pub going_end : {g : ℕ} {input : List ℕ} {gs : List Field} {n from due at : ℕ} → Going g input gs n from due at → due ≤ 0
-    → at ≡ end_of (scans g input (repeated n gs) from 0)
+    → Some at ≡ end_of (scans g input (repeated n gs) from 0)
 unfolding repeated
 going_end {g} {input} {gs} {n} {from} {due} {at} go h =
     let z : due ≡ 0 = omega arith in
@@ -619,7 +630,7 @@ module _ {g : ℕ} {input : List ℕ} {f h : Field} {n from due at : ℕ} (o : G
   opened = ap (λ fs. end_of (scans g input fs at 0)) (sym (repeated-more due (f ∷ h ∷ []) some)) ∙ o.same
 
   -- its first field is not right
-  pub going_first : Wrong (scan 1 g f (drop at input)) → 0 ≡ end_of (scans g input (repeated n (f ∷ h ∷ [])) from 0)
+  pub going_first : Wrong (scan 1 g f (drop at input)) → None ≡ end_of (scans g input (repeated n (f ∷ h ∷ [])) from 0)
   going_first w = sym (end_bad g input f (h ∷ repeated (due - 1) (f ∷ h ∷ [])) at 0 w) ∙ opened
 
   module _ {t m : ℕ} (e : scan 1 g f (drop at input) ≡ Fine t m) where
@@ -628,7 +639,7 @@ module _ {g : ℕ} {input : List ℕ} {f h : Field} {n from due at : ℕ} (o : G
     second = sym (end_step g input f (h ∷ repeated (due - 1) (f ∷ h ∷ [])) at 0 t m e) ∙ opened
 
     -- its second is not
-    pub going_second : Wrong (scan 1 g h (drop (at + t) input)) → 0 ≡ end_of (scans g input (repeated n (f ∷ h ∷ [])) from 0)
+    pub going_second : Wrong (scan 1 g h (drop (at + t) input)) → None ≡ end_of (scans g input (repeated n (f ∷ h ∷ [])) from 0)
     going_second w = sym (end_bad g input h (repeated (due - 1) (f ∷ h ∷ [])) (at + t) 0 w) ∙ second
 
     -- both are
@@ -640,7 +651,6 @@ module _ {g : ℕ} {input : List ℕ} {f h : Field} {n from due at : ℕ} (o : G
         in
         record {
           same = sym (end_step g input h (repeated (due - 1) (f ∷ h ∷ [])) (at + t) 0 u k d) ∙ second;
-          place = omega (arith, o.place);
           inside = omega (arith, o.inside, length-drop at input, length-drop (at + t) input);
         }
 

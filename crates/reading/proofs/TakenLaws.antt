@@ -1,4 +1,8 @@
 -- An item that is read: it has a shape, whose words fit, and few words.
+use Rattle.std.specs.Prelude.{None}
+use Rattle.std.specs.Prelude.{Some}
+use Rattle.std.specs.Prelude.{Option}
+use Rattle.std.specs.Prelude.{Err, Ok}
 use Prim.Native.Nat.{ℕ, ◌^◌, ◌≤◌}
 use native.Mathlib.Omega.{arith}
 use mathlib.Core.Path.{◌≡◌, refl, sym, ap, ◌∙◌}
@@ -8,18 +12,17 @@ use borrow.Author.Tests.{ltb-false, leb-true}
 use lib.Dec.{eqb, ltb, leb}
 use lib.ListN.{length}
 use lib.Seq.{sets}
-use Rattle.fields.specs.declared.Leaf.{Leaf}
-use Rattle.fields.specs.declared.Leaf.TheVariants.{Fine, Bad}
+use Rattle.fields.specs.Leaf.{Leaf}
+use Rattle.fields.specs.Leaf.{Fine}
 use Rattle.fields.specs.declared.Refusal.{Refusal}
 use Rattle.fields.specs.declared.Refusal.TheVariants as refusal
-use Rattle.fields.specs.declared.Found.{Found}
-use Rattle.fields.specs.declared.Found.TheVariants.{Is, Not}
-use Rattle.fields.specs.declared.Read.{Read}
-use Rattle.fields.specs.declared.Read.TheVariants.{Item, Refused}
+use Rattle.fields.specs.Read.{Read}
+use Rattle.fields.specs.Read.{Item, Refused}
 use Rattle.fields.specs.declared.Shape.{Shape}
 use Rattle.fields.specs.Answers.{left_row}
 use Rattle.reading.specs.Read.{scanned, filled, roomed, read_found, read_item}
 use Rattle.reading.specs.inside.Few.{Few}
+use Rattle.fields.proofs.OutcomeLaws.{item-same}
 use Rattle.numbers.proofs.Impossible.{impossible}
 
 -- a refusal is no item
@@ -29,21 +32,21 @@ refused {w} {n} {q} {e} r =
     impossible cc
 
 -- an item that is accepted has a shape, and its words, which the shape says, fit
-pub record Taken (found : Found) (kind lead g : ℕ) (input room after : List ℕ) (q e : ℕ) : Type 0 where
+pub record Taken (found : Option Shape) (kind lead g : ℕ) (input room after : List ℕ) (q e : ℕ) : Type 0 where
   pub shape : Shape
-  pub is : found ≡ Is shape
+  pub is : found ≡ Some shape
   pub ends : scanned lead g shape input ≡ Fine e q
   pub short : q ≤ 16384
   pub fits : q ≤ length room
   pub leaves : after ≡ sets room 0 (filled kind lead g shape input)
 
 module _ (kind lead g : ℕ) (input room after : List ℕ) (q e : ℕ) where
-  abbrev pub Takes : Found → Type 0
+  abbrev pub Takes : Option Shape → Type 0
   Takes found = Taken found kind lead g input room after q e
 
   -- its words fit
   fitting : (s : Shape) (a b : ℕ) → scanned lead g s input ≡ Fine a b → roomed (Fine a b) (filled kind lead g s input) room ≡ left_row (Item q e) after
-      → Takes (Is s)
+      → Takes (Some s)
   unfolding roomed
   fitting s a b p r = go (ltb 16384 b) (leb b (length room)) refl refl r
     where
@@ -53,13 +56,13 @@ module _ (kind lead g : ℕ) (input room after : List ℕ) (q e : ℕ) where
       go : (long fits : Bool) → ltb 16384 b ≡ long → leb b (length room) ≡ fits
           → cond long (left_row (Refused refusal.Room b) room)
           (cond fits (left_row (Item b a) (sets room 0 words)) (left_row (Refused refusal.Room b) room)) ≡ left_row (Item q e) after
-          → Takes (Is s)
+          → Takes (Some s)
       go true fits u v r = refused r
       go false false u v r = refused r
       go false true u v r =
           let item : Item b a ≡ Item q e = ap (λ l. l.answer) r in
-          let eb : b ≡ q = cc in
-          let ea : a ≡ e = cc in
+          let eb : b ≡ q = (item-same item).0 in
+          let ea : a ≡ e = (item-same item).1 in
           let short = ltb-false 16384 b u in
           let fits = leb-true b (length room) v in
           record {
@@ -72,16 +75,16 @@ module _ (kind lead g : ℕ) (input room after : List ℕ) (q e : ℕ) where
           }
 
   -- its kind is found, and its fields have no fault
-  finding : (found : Found) → read_found found kind lead g input room ≡ left_row (Item q e) after → Takes found
+  finding : (found : Option Shape) → read_found found kind lead g input room ≡ left_row (Item q e) after → Takes found
   unfolding roomed
-  finding Not r = refused r
-  finding (Is s) r = go (scanned lead g s input) refl r
+  finding None r = refused r
+  finding (Some s) r = go (scanned lead g s input) refl r
     where
-      go : (l : Leaf) → scanned lead g s input ≡ l → roomed l (filled kind lead g s input) room ≡ left_row (Item q e) after → Takes (Is s)
-      go (Bad w j) p r = refused r
-      go (Fine a b) p r = fitting s a b p r
+      go : (l : Leaf) → scanned lead g s input ≡ l → roomed l (filled kind lead g s input) room ≡ left_row (Item q e) after → Takes (Some s)
+      go (Err fault) p r = refused r
+      go (Ok span) p r = fitting s span.took span.made p r
 
-  pub taken : (found : Found) → read_item found kind lead g input room ≡ left_row (Item q e) after → Takes found
+  pub taken : (found : Option Shape) → read_item found kind lead g input room ≡ left_row (Item q e) after → Takes found
   unfolding read_item
   taken found r = go (ltb (2 ^ 30) (length input)) (ltb g 1) (ltb 3 g) (eqb (length input) 0) r
     where
@@ -98,9 +101,9 @@ module _ (kind lead g : ℕ) (input room after : List ℕ) (q e : ℕ) where
       go false false false false r = finding found r
 
 -- so an item has few words
-pub item-few : (found : Found) (kind lead g : ℕ) (input row : List ℕ) → Few (read_item found kind lead g input row).answer
+pub item-few : (found : Option Shape) (kind lead g : ℕ) (input row : List ℕ) → Few (read_item found kind lead g input row).answer
 item-few found kind lead g input row = few (read_item found kind lead g input row).answer (read_item found kind lead g input row).row refl
   where
     few : (r : Read) (after : List ℕ) → read_item found kind lead g input row ≡ left_row r after → Few r
-    few (Item q e) after h = (taken kind lead g input row after q e found h).short
-    few (Refused w n) after h = tt
+    few (Ok item) after h = (taken kind lead g input row after item.words item.took found h).short
+    few (Err fault) after h = tt

@@ -1,4 +1,8 @@
 -- From what a straight reader leaves to what a reading call answers, and shapes by their fields: from the stages of a shape in `fields`.
+use Rattle.std.specs.Prelude.{None}
+use Rattle.std.specs.Prelude.{Some}
+use Rattle.std.specs.Prelude.{Option}
+use Rattle.std.specs.Prelude.{Err, Ok}
 use Prim.Native.Nat.{ℕ, ◌+◌, ◌≤◌, ◌<◌, ◌^◌}
 use native.Mathlib.Omega.{arith}
 use native.Mathlib.Nat.{add-zero}
@@ -9,16 +13,14 @@ use lib.Dec.{eqb, ltb, leb}
 use lib.ListN.{length, get_or, drop, length-drop}
 use lib.Seq.{sets, drop-drop, get_or-drop}
 use borrow.Author.Tests.{lt-ltb, le-ltb, lt-leb, ltb-true, ltb-false, eqb-false, eq-eqb, ne_eqb}
-use Rattle.numbers.specs.declared.leb.Taken.{Taken}
-use Rattle.numbers.specs.declared.leb.Taken.TheVariants as taken
+use Rattle.numbers.specs.Taken.{Taken}
+use Rattle.numbers.specs.Taken as taken
 use Rattle.numbers.specs.Leb.{take_unsigned}
 use Rattle.fields.specs.declared.Field.{Field}
 use Rattle.fields.specs.declared.Field.TheVariants as field
-use Rattle.fields.specs.declared.Found.{Found}
-use Rattle.fields.specs.declared.Found.TheVariants as found
-use Rattle.fields.specs.declared.Leaf.{Leaf}
-use Rattle.fields.specs.declared.Leaf.TheVariants.{Fine, Bad}
-use Rattle.fields.specs.declared.Read.TheVariants as read
+use Rattle.fields.specs.Leaf.{Leaf}
+use Rattle.fields.specs.Leaf.{Fine, Bad}
+use Rattle.fields.specs.Read as read
 use Rattle.fields.specs.declared.Refusal.{Refusal}
 use Rattle.fields.specs.declared.Refusal.TheVariants as refusal
 use Rattle.fields.specs.declared.Shape.{Shape}
@@ -35,7 +37,7 @@ use Rattle.fields.specs.Walk.{next, walk}
 use Rattle.fields.proofs.RunLaws.{along-append, walk_end, outs-last}
 use Rattle.fields.proofs.StageLaws.{walk_counted, outs_staged}
 use Rattle.reading.proofs.ScannedLaws.{tells, counted_value}
-use Rattle.reading.specs.declared.Tried.TheVariants.{Item, Not}
+use Rattle.reading.specs.inside.Try.{Tried, Item}
 use Rattle.reading.specs.Seen.{within, roomy}
 use Rattle.reading.specs.inside.Tried.{left_tried, tried, tried_found}
 use Rattle.numbers.proofs.Impossible.{impossible}
@@ -59,7 +61,7 @@ fixed_seen lead g input at b h k e =
 
 -- ---- what is not
 
-not_item : {P : Type 0} {q e : ℕ} → Item q e ≡ Not → P
+not_item : {P : Type 0} {q e : ℕ} → Item q e ≡ None → P
 not_item e = impossible cc
 
 not_fine : {P : Type 0} {w : Refusal} {j t m : ℕ} → Bad w j ≡ Fine t m → P
@@ -68,41 +70,53 @@ not_fine e = impossible cc
 not_true : {P : Type 0} → false ≡ true → P
 not_true e = impossible cc
 
+-- two that are the same hold the same numbers
+abbrev words_in : Tried → ℕ
+words_in (Some item) = item.words
+words_in None = 0
+
+abbrev bytes_in : Tried → ℕ
+bytes_in (Some item) = item.took
+bytes_in None = 0
+
+found-same : {m t k u : ℕ} → Item m t ≡ Item k u → (m ≡ k) × (t ≡ u)
+found-same e = (ap words_in e, ap bytes_in e)
+
 -- ---- an item of a shape
 
 -- one that stands in the row is what the call answers
 pub read_done : (l : Leaf) (ws row new : List ℕ) (q e : ℕ) → left_tried (Item q e) new ≡ tried l ws row
     → left_row (read.Item q e) new ≡ roomed l ws row
 unfolding tried roomed roomy
-read_done (Bad w j) ws row new q e h = not_item (ap (λ x. x.answer) h)
-read_done (Fine a m) ws row new q e h = go (ltb 16384 m) (leb m (length row)) h
+read_done (Err fault) ws row new q e h = not_item (ap (λ x. x.answer) h)
+read_done (Ok span) ws row new q e h = go (ltb 16384 span.made) (leb span.made (length row)) h
   where
-    go : (s t : Bool) → left_tried (Item q e) new ≡ cond (cond s false t) (left_tried (Item m a) (sets row 0 ws)) (left_tried Not row)
+    go : (s t : Bool) → left_tried (Item q e) new ≡ cond (cond s false t) (left_tried (Item span.made span.took) (sets row 0 ws)) (left_tried None row)
         → left_row (read.Item q e) new
-        ≡ cond s (left_row (read.Refused refusal.Room m) row)
-        (cond t (left_row (read.Item m a) (sets row 0 ws)) (left_row (read.Refused refusal.Room m) row))
+        ≡ cond s (left_row (read.Refused refusal.Room span.made) row)
+        (cond t (left_row (read.Item span.made span.took) (sets row 0 ws)) (left_row (read.Refused refusal.Room span.made) row))
     go true t h = not_item (ap (λ x. x.answer) h)
     go false true h =
-        let i : Item q e ≡ Item m a = ap (λ x. x.answer) h in
-        let words : q ≡ m = cc in
-        let bytes : e ≡ a = cc in
+        let i : Item q e ≡ Item span.made span.took = ap (λ x. x.answer) h in
+        let words : q ≡ span.made = (found-same i).0 in
+        let bytes : e ≡ span.took = (found-same i).1 in
         let content : new ≡ sets row 0 ws = ap (λ x. x.row) h in
         λ k. left_row (read.Item (words k) (bytes k)) (content k)
     go false false h = not_item (ap (λ x. x.answer) h)
 
 -- where there is none that has room, the call refuses
-pub read_not : (l : Leaf) (ws row new : List ℕ) → left_tried Not new ≡ tried l ws row → left_row (refusal_of l) new ≡ roomed l ws row
+pub read_not : (l : Leaf) (ws row new : List ℕ) → left_tried None new ≡ tried l ws row → left_row (refusal_of l) new ≡ roomed l ws row
 unfolding tried roomed roomy
-read_not (Bad w j) ws row new h = ap (λ x. left_row (read.Refused w j) x.row) h
-read_not (Fine a m) ws row new h = go (ltb 16384 m) (leb m (length row)) h
+read_not (Err fault) ws row new h = ap (λ x. left_row (read.Refused fault.why fault.value) x.row) h
+read_not (Ok span) ws row new h = go (ltb 16384 span.made) (leb span.made (length row)) h
   where
-    go : (s t : Bool) → left_tried Not new ≡ cond (cond s false t) (left_tried (Item m a) (sets row 0 ws)) (left_tried Not row)
-        → left_row (read.Refused refusal.Room m) new
-        ≡ cond s (left_row (read.Refused refusal.Room m) row)
-        (cond t (left_row (read.Item m a) (sets row 0 ws)) (left_row (read.Refused refusal.Room m) row))
-    go true t h = ap (λ x. left_row (read.Refused refusal.Room m) x.row) h
+    go : (s t : Bool) → left_tried None new ≡ cond (cond s false t) (left_tried (Item span.made span.took) (sets row 0 ws)) (left_tried None row)
+        → left_row (read.Refused refusal.Room span.made) new
+        ≡ cond s (left_row (read.Refused refusal.Room span.made) row)
+        (cond t (left_row (read.Item span.made span.took) (sets row 0 ws)) (left_row (read.Refused refusal.Room span.made) row))
+    go true t h = ap (λ x. left_row (read.Refused refusal.Room span.made) x.row) h
     go false true h = not_item (sym (ap (λ x. x.answer) h))
-    go false false h = ap (λ x. left_row (read.Refused refusal.Room m) x.row) h
+    go false false h = ap (λ x. left_row (read.Refused refusal.Room span.made) x.row) h
 
 -- ---- the whole call
 
@@ -124,7 +138,7 @@ within-limits lead g input h =
     go false false false false true ea eb ec ed ez h =
         (ltb-false _ _ ea, ltb-false _ _ eb, ltb-false _ _ ec, ltb-false _ _ ed, ltb-true _ _ ez)
 
-module _ (f : Found) (kind lead g : ℕ) (input row : List ℕ) where
+module _ (f : Option Shape) (kind lead g : ℕ) (input row : List ℕ) where
   -- within the limits the shape says what the call answers
   module _ (h : within lead g input ≡ true) where
     tests : (ltb (2 ^ 30) (length input) ≡ false) × (ltb g 1 ≡ false) × (ltb 3 g ≡ false) × (eqb (length input) 0 ≡ false)
@@ -138,32 +152,32 @@ module _ (f : Found) (kind lead g : ℕ) (input row : List ℕ) where
     unfolding read_item
     call_done q e new t = rw (tests.0, tests.1, tests.2, tests.3) (go f t)
       where
-        go : (f : Found) → left_tried (Item q e) new ≡ tried_found f kind lead g input row
+        go : (f : Option Shape) → left_tried (Item q e) new ≡ tried_found f kind lead g input row
             → left_row (read.Item q e) new ≡ read_found f kind lead g input row
-        go (found.Is s) t = read_done (scanned lead g s input) (filled kind lead g s input) row new q e t
-        go found.Not t = not_item (ap (λ x. x.answer) t)
+        go (Some s) t = read_done (scanned lead g s input) (filled kind lead g s input) row new q e t
+        go None t = not_item (ap (λ x. x.answer) t)
 
     -- where there is none that has room, the call refuses
-    pub call_not : (new : List ℕ) → left_tried Not new ≡ tried_found f kind lead g input row
+    pub call_not : (new : List ℕ) → left_tried None new ≡ tried_found f kind lead g input row
         → left_row (refusal_of (scanned_item f lead g input)) new ≡ read_item f kind lead g input row
     unfolding read_item scanned_item
     call_not new t = rw (tests.0, tests.1, tests.2, tests.3) (go f t)
       where
-        go : (f : Found) → left_tried Not new ≡ tried_found f kind lead g input row
+        go : (f : Option Shape) → left_tried None new ≡ tried_found f kind lead g input row
             → left_row (refusal_of (scanned_found f lead g input)) new ≡ read_found f kind lead g input row
-        go (found.Is s) t = read_not (scanned lead g s input) (filled kind lead g s input) row new t
-        go found.Not t = ap (λ x. left_row (read.Refused refusal.Code 0) x.row) t
+        go (Some s) t = read_not (scanned lead g s input) (filled kind lead g s input) row new t
+        go None t = ap (λ x. left_row (read.Refused refusal.Code 0) x.row) t
 
   -- an item that is not whole is refused as it is scanned
-  refused : (f : Found) → ((e q : ℕ) → scanned_found f lead g input ≡ Fine e q → ⊥)
+  refused : (f : Option Shape) → ((e q : ℕ) → scanned_found f lead g input ≡ Fine e q → ⊥)
       → left_row (refusal_of (scanned_found f lead g input)) row ≡ read_found f kind lead g input row
   unfolding roomed
-  refused (found.Is s) h = go (scanned lead g s input) h
+  refused (Some s) h = go (scanned lead g s input) h
     where
       go : (l : Leaf) → ((e q : ℕ) → l ≡ Fine e q → ⊥) → left_row (refusal_of l) row ≡ roomed l (filled kind lead g s input) row
-      go (Fine e q) h = absurd (h e q refl)
-      go (Bad w j) h = refl
-  refused found.Not h = refl
+      go (Ok span) h = absurd (h span.took span.made refl)
+      go (Err fault) h = refl
+  refused None h = refl
 
   -- outside the limits, where an item whose lead is above the grade is not whole
   pub call_outside : within lead g input ≡ false → (g < lead → (e q : ℕ) → scanned_found f lead g input ≡ Fine e q → ⊥)
@@ -209,8 +223,8 @@ lead_newer lead g b s input is k e q h =
         go false false x = not_fine x
 
     then : (l : Leaf) → ((t m : ℕ) → l ≡ Fine t m → ⊥) → (k : ℕ → ℕ → Leaf) → next l k 0 ≡ Fine e q → ⊥
-    then (Fine t m) none k x = none t m refl
-    then (Bad w j) none k x = not_fine x
+    then (Ok span) none k x = none span.took span.made refl
+    then (Err fault) none k x = not_fine x
 
 -- ---- shapes of two fields
 
@@ -222,8 +236,8 @@ module _ (lead g : ℕ) (input : List ℕ) where
       along-append (scan lead g) fs (field.Nothing ∷ []) input at made ∙ go (along (scan lead g) fs (drop at input) at made)
     where
       go : (l : Leaf) → after l (λ a m. along (scan lead g) (field.Nothing ∷ []) (drop a input) a m) ≡ l
-      go (Fine a m) = sym (nothing_scans lead g input a m)
-      go (Bad w j) = refl
+      go (Ok span) = sym (nothing_scans lead g input span.took span.made)
+      go (Err fault) = refl
 
   -- all the fields of such a shape, and their words
   two_along : (l f h : Field)
@@ -337,7 +351,7 @@ module _ (lead g : ℕ) (s : Shape) (input : List ℕ) (at made : ℕ) where
   counted_none h = go (take_unsigned (drop at input)) refl
     where
       go : (x : Taken) → take_unsigned (drop at input) ≡ x → (w : Refusal) × (j : ℕ) × (counted_scan lead g s input at made ≡ Bad w j)
-      go (taken.Value n t) e = absurd (h n t e)
+      go (Ok taken2) e = absurd (h taken2.value taken2.took e)
       go taken.Cut e = (refusal.Cut, at + length (drop at input), rw e)
       go taken.Bad e = (refusal.Number, at + 0, rw e)
 

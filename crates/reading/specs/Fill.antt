@@ -1,23 +1,23 @@
 -- The words of a field whose bytes were scanned; a name's start is a place of the input, at which the bytes stand.
+use Rattle.std.specs.Prelude.{Err, Ok}
 use Rattle.std.specs.Prelude.{ℕ, ◌+◌, ◌-◌, cond, List, [], ◌∷◌, ◌++◌, eqb, ltb, drop}
-use Rattle.numbers.specs.declared.leb.Taken.{Taken}
-use Rattle.numbers.specs.declared.leb.Taken.TheVariants as taken
+use Rattle.numbers.specs.Taken.{Taken}
+use Rattle.numbers.specs.Taken as taken
 use Rattle.numbers.specs.Leb.{take_unsigned, take_signed}
 use Rattle.fields.specs.declared.Field.{Field}
 use Rattle.fields.specs.declared.Field.TheVariants as field
-use Rattle.fields.specs.declared.Leaf.{Leaf}
-use Rattle.fields.specs.declared.Leaf.TheVariants.{Fine, Bad}
+use Rattle.fields.specs.Leaf.{Leaf}
 use Rattle.fields.specs.Words.{indexed}
 use Rattle.reading.specs.Scan.{byte, head_scan, first_scan, second_scan}
 
 -- the number and the bytes of what was taken
 abbrev pub value_in : Taken → ℕ
-value_in (taken.Value n t) = n
+value_in (Ok taken2) = taken2.value
 value_in taken.Cut = 0
 value_in taken.Bad = 0
 
 abbrev pub size_in : Taken → ℕ
-size_in (taken.Value n t) = t
+size_in (Ok taken2) = taken2.took
 size_in taken.Cut = 0
 size_in taken.Bad = 0
 
@@ -42,9 +42,9 @@ fill_name at bs from = (at + (from + size_in (take_unsigned (drop from bs)))) �
 
 -- an option: present, start, length
 unfoldable pub fill_slot : ℕ → ℕ → List ℕ → Leaf → List ℕ
-fill_slot k at bs (Fine from due) =
-    cond (eqb due 0) (0 ∷ 0 ∷ 0 ∷ []) (cond (eqb (byte bs from) k) (1 ∷ fill_name at bs (from + 1)) (0 ∷ 0 ∷ 0 ∷ []))
-fill_slot k at bs (Bad w j) = 0 ∷ 0 ∷ 0 ∷ []
+fill_slot k at bs (Ok span) =
+    cond (eqb span.made 0) (0 ∷ 0 ∷ 0 ∷ []) (cond (eqb (byte bs span.took) k) (1 ∷ fill_name at bs (span.took + 1)) (0 ∷ 0 ∷ 0 ∷ []))
+fill_slot k at bs (Err fault) = 0 ∷ 0 ∷ 0 ∷ []
 
 unfoldable pub fill_slots : ℕ → ℕ → List ℕ → List ℕ
 fill_slots g at bs = fill_slot 0x00 at bs (head_scan g bs) ++ (fill_slot 0x01 at bs (first_scan g bs) ++ fill_slot 0x02 at bs (second_scan g bs))

@@ -1,13 +1,15 @@
 -- Reading an item: what is answered, and what the row then holds.
+use Rattle.std.specs.Prelude.{None}
+use Rattle.std.specs.Prelude.{Some}
+use Rattle.std.specs.Prelude.{Option}
+use Rattle.std.specs.Prelude.{Err, Ok}
 use Rattle.std.specs.Prelude.{ℕ, cond, List, ◌∷◌, eqb, ltb, leb, length}
 use Rattle.std.proofs.lemmas.List.Edits.{sets}
 use Rattle.fields.specs.declared.Refusal.TheVariants as refusal
-use Rattle.fields.specs.declared.Leaf.{Leaf}
-use Rattle.fields.specs.declared.Leaf.TheVariants.{Fine, Bad}
-use Rattle.fields.specs.declared.Read.{Read}
-use Rattle.fields.specs.declared.Read.TheVariants.{Item, Refused}
-use Rattle.fields.specs.declared.Found.{Found}
-use Rattle.fields.specs.declared.Found.TheVariants.{Is, Not}
+use Rattle.fields.specs.Leaf.{Leaf}
+use Rattle.fields.specs.Leaf.{Bad}
+use Rattle.fields.specs.Read.{Read}
+use Rattle.fields.specs.Read.{Item, Refused}
 use Rattle.fields.specs.declared.Shape.{Shape}
 use Rattle.reading.specs.Fill.{fill}
 use Rattle.reading.specs.Scan.{scan}
@@ -30,10 +32,10 @@ filled kind lead g s input = kind ∷ outs (reader lead g input) (plan s) 0 inpu
 
 -- ROOM only for an item otherwise whole, one of more than 16,384 words included
 unfoldable pub roomed : Leaf → List ℕ → List ℕ → LeftRow
-roomed (Bad w j) ws row = left_row (Refused w j) row
-roomed (Fine e q) ws row =
-    cond (ltb row_words q) (left_row (Refused refusal.Room q) row)
-    (cond (leb q (length row)) (left_row (Item q e) (sets row 0 ws)) (left_row (Refused refusal.Room q) row))
+roomed (Err fault) ws row = left_row (Refused fault.why fault.value) row
+roomed (Ok span) ws row =
+    cond (ltb row_words span.made) (left_row (Refused refusal.Room span.made) row)
+    (cond (leb span.made (length row)) (left_row (Item span.made span.took) (sets row 0 ws)) (left_row (Refused refusal.Room span.made) row))
 
 -- LIMIT for an input too long, and for a grade that is none of the three
 abbrev pub limited : ℕ → List ℕ → List ℕ → LeftRow → LeftRow
@@ -42,21 +44,21 @@ limited g input row l =
     (cond (ltb g 1) (left_row (Refused refusal.Limit 0) row) (cond (ltb 3 g) (left_row (Refused refusal.Limit 0) row) l))
 
 -- an item of a shape; CODE where no kind begins with the first byte
-abbrev pub read_found : Found → ℕ → ℕ → ℕ → List ℕ → List ℕ → LeftRow
-read_found (Is s) kind lead g input row = roomed (scanned lead g s input) (filled kind lead g s input) row
-read_found Not kind lead g input row = left_row (Refused refusal.Code 0) row
+abbrev pub read_found : Option Shape → ℕ → ℕ → ℕ → List ℕ → List ℕ → LeftRow
+read_found (Some s) kind lead g input row = roomed (scanned lead g s input) (filled kind lead g s input) row
+read_found None kind lead g input row = left_row (Refused refusal.Code 0) row
 
 -- an item of a kind that was found by its first byte: LIMIT, then an empty input, then what its shape says
-unfoldable pub read_item : Found → ℕ → ℕ → ℕ → List ℕ → List ℕ → LeftRow
+unfoldable pub read_item : Option Shape → ℕ → ℕ → ℕ → List ℕ → List ℕ → LeftRow
 read_item found kind lead g input row =
     limited g input row (cond (eqb (length input) 0) (left_row (Refused refusal.Cut 0) row) (read_found found kind lead g input row))
 
 -- what is wrong with an item: LIMIT, then an empty input, then what its shape says; nothing where it is whole
-abbrev pub scanned_found : Found → ℕ → ℕ → List ℕ → Leaf
-scanned_found (Is s) lead g input = scanned lead g s input
-scanned_found Not lead g input = Bad refusal.Code 0
+abbrev pub scanned_found : Option Shape → ℕ → ℕ → List ℕ → Leaf
+scanned_found (Some s) lead g input = scanned lead g s input
+scanned_found None lead g input = Bad refusal.Code 0
 
-unfoldable pub scanned_item : Found → ℕ → ℕ → List ℕ → Leaf
+unfoldable pub scanned_item : Option Shape → ℕ → ℕ → List ℕ → Leaf
 scanned_item found lead g input =
     cond (ltb input_bytes (length input)) (Bad refusal.Limit 0)
     (cond (ltb g 1) (Bad refusal.Limit 0)
@@ -64,5 +66,5 @@ scanned_item found lead g input =
 
 -- the refusal of an item that is not read: what is wrong with it, or ROOM where it is whole
 abbrev pub refusal_of : Leaf → Read
-refusal_of (Fine e q) = Refused refusal.Room q
-refusal_of (Bad w j) = Refused w j
+refusal_of (Ok span) = Refused refusal.Room span.made
+refusal_of (Err fault) = Refused fault.why fault.value

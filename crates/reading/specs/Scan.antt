@@ -1,15 +1,16 @@
 -- What a reader of grade g says of a field at the front of its input: the bytes it takes and the words it makes, or the leftmost
 -- fault. `lead` is the grade of a fixed byte.
+use Rattle.std.specs.Prelude.{Err, Ok}
 use Rattle.std.specs.Prelude.{ℕ, ◌+◌, ◌-◌, cond, List, eqb, ltb, leb, length, get_or, take, drop}
-use Rattle.numbers.specs.declared.leb.Taken.{Taken}
-use Rattle.numbers.specs.declared.leb.Taken.TheVariants as taken
+use Rattle.numbers.specs.Taken.{Taken}
+use Rattle.numbers.specs.Taken as taken
 use Rattle.numbers.specs.Leb.{take_unsigned, take_signed}
 use Rattle.numbers.specs.Text.{text, stop}
 use Rattle.fields.specs.declared.Field.{Field}
 use Rattle.fields.specs.declared.Field.TheVariants as field
 use Rattle.fields.specs.declared.Refusal.TheVariants.{Text, Cut, Code, Number, Newer}
-use Rattle.fields.specs.declared.Leaf.{Leaf}
-use Rattle.fields.specs.declared.Leaf.TheVariants.{Fine, Bad}
+use Rattle.fields.specs.Leaf.{Leaf}
+use Rattle.fields.specs.Leaf.{Fine, Bad}
 use Rattle.fields.specs.Answers.{offset_of}
 use Rattle.fields.specs.Grades.{grade_of}
 use Rattle.fields.specs.declared.Site.TheVariants.{TypeLead, NameLead, CanonOption}
@@ -34,12 +35,12 @@ asked g n j l = cond (ltb g n) (Bad Newer j) l
 
 -- what stands behind k bytes
 abbrev pub past : ℕ → Leaf → Leaf
-past k (Fine t m) = Fine (k + t) m
-past k (Bad w j) = Bad w (k + j)
+past k (Ok span) = Fine (k + span.took) span.made
+past k (Err fault) = Bad fault.why (k + fault.value)
 
 -- a number at the front, which makes m words
 abbrev pub numbered : List ℕ → Taken → ℕ → Leaf
-numbered bs (taken.Value n t) m = Fine t m
+numbered bs (Ok taken2) m = Fine taken2.took m
 numbered bs taken.Cut m = cut bs
 numbered bs taken.Bad m = Bad Number 0
 
@@ -48,7 +49,7 @@ scan_index m bs = numbered bs (take_unsigned bs) m
 
 -- a name: its length, and its bytes, which are text
 abbrev pub named : List ℕ → Taken → Leaf
-named bs (taken.Value n t) = cond (leb (t + n) (length bs)) (cond (text (take n (drop t bs))) (Fine (t + n) 2) (Bad (Text (offset_of (stop (take n (drop t bs))))) t)) (cut bs)
+named bs (Ok taken2) = cond (leb (taken2.took + taken2.value) (length bs)) (cond (text (take taken2.value (drop taken2.took bs))) (Fine (taken2.took + taken2.value) 2) (Bad (Text (offset_of (stop (take taken2.value (drop taken2.took bs))))) taken2.took)) (cut bs)
 named bs taken.Cut = cut bs
 named bs taken.Bad = Bad Number 0
 
@@ -79,8 +80,8 @@ scan_optional g bs = either bs 0x00 (Fine 1 2) 0x01 (past 1 (scan_value g (drop 
 
 -- a byte 00 behind
 abbrev pub then_zero : List ℕ → Leaf → Leaf
-then_zero bs (Fine t m) = zero_at bs t (Fine (t + 1) m)
-then_zero bs (Bad w j) = Bad w j
+then_zero bs (Ok span) = zero_at bs span.took (Fine (span.took + 1) span.made)
+then_zero bs (Err fault) = Bad fault.why fault.value
 
 unfoldable pub scan_result : ℕ → List ℕ → Leaf
 scan_result g bs = either bs 0x00 (past 1 (scan_value g (drop 1 bs))) 0x01 (zero_at bs 1 (Fine 2 2))
@@ -95,8 +96,8 @@ scan_choice g bs = there bs 0 (cond (ltb (byte bs 0) 10) (asked g (grade_of Cano
 -- ---- extern names: steps that hand on a place and how many options are still to come
 
 abbrev pub onward : Leaf → (ℕ → ℕ → Leaf) → Leaf
-onward (Fine at due) k = k at due
-onward (Bad w j) k = Bad w j
+onward (Ok span) k = k span.took span.made
+onward (Err fault) k = Bad fault.why fault.value
 
 -- a string at `at`, with `due` handed on
 abbrev pub string_at : List ℕ → ℕ → ℕ → Leaf
@@ -104,7 +105,7 @@ string_at bs at due = onward (past at (scan_name (drop at bs))) (λ next m. Fine
 
 -- the option count: 1, 2 or 3
 abbrev pub counted : ℕ → Taken → ℕ → Leaf
-counted len (taken.Value n t) at = cond (eqb n 0) (Bad Code at) (cond (ltb n 4) (Fine (at + t) n) (Bad Code at))
+counted len (Ok taken2) at = cond (eqb taken2.value 0) (Bad Code at) (cond (ltb taken2.value 4) (Fine (at + taken2.took) taken2.value) (Bad Code at))
 counted len taken.Cut at = Bad Cut len
 counted len taken.Bad at = Bad Number at
 
@@ -145,8 +146,8 @@ scan_module m bs = there bs 1 (cond (eqb (byte bs 1) 0x11) (past 2 (scan_index m
 
 -- three words of what follows the sort
 abbrev pub three : Leaf → Leaf
-three (Fine t m) = Fine t 3
-three (Bad w j) = Bad w j
+three (Ok span) = Fine span.took 3
+three (Err fault) = Bad fault.why fault.value
 
 unfoldable pub scan_reference : ℕ → List ℕ → Leaf
 scan_reference g bs =

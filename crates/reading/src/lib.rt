@@ -1,5 +1,5 @@
 // Bytes to rows: the walk over an item that finds what is wrong with it, and the steps that the straight code of every kind uses. Each
-// step is lent the input from its place on, and says how many bytes its field takes, 0 where that is not right.
+// step is lent the input from its place on, and says how many bytes its field takes and its words, if that is right.
 #![tactic(auto)]
 
 mod item;
@@ -7,7 +7,7 @@ mod scan;
 
 ghost use Rattle.std.specs.Prelude.{◌≤◌, ◌≡◌};
 ghost use Rattle.fields.specs.declared.Field.TheVariants as field;
-ghost use Rattle.reading.specs.Seen.{one, pair, no_pair, within, roomy};
+ghost use Rattle.reading.specs.Seen.{one, pair, within, roomy};
 ghost use Rattle.reading.specs.inside.Steps.{behind_one, is_primitive};
 ghost use Rattle.reading.specs.Fill as words;
 
@@ -15,31 +15,12 @@ use fields::{INPUT_BYTES, ROW_WORDS, Site, grade_of};
 pub use item::item_refusal;
 use numbers::Number;
 
-// A field of two words: how many bytes it takes, 0 where it is not right, and its words.
+// A field of two words: how many bytes it takes, and its words.
 #[derive(Clone, Copy)]
 pub struct Pair {
     pub took: usize,
     pub a: u32,
     pub b: u32,
-}
-
-// What a straight reader comes to.
-#[derive(Clone, Copy)]
-pub enum Tried {
-    // The item stands in the row: so many words, and so many bytes taken.
-    Item(usize, usize),
-    // There is no item that has room; the row is as it was.
-    Not,
-}
-
-fn no_pair() -> Pair
-    ensures { result ≡ no_pair }
-{
-    Pair {
-        took: 0,
-        a: 0,
-        b: 0,
-    }
 }
 
 // Whether a byte is a primitive's, at a grade.
@@ -68,117 +49,113 @@ fn primitive_of(b: u8) -> u32
 }
 
 // A primitive.
-pub fn primitive(grade: u32, bs: &[u8]) -> Number
+pub fn primitive(grade: u32, bs: &[u8]) -> Option<Number>
     ensures { result ≡ one grade field.Primitive bs.now }
 {
     if 0 < bs.len() {
         let b = bs[0];
         if is_primitive(grade, b) {
-            return Number {
+            return Some(Number {
                 value: primitive_of(b),
                 took: 1,
-            };
+            });
         }
     }
-    Number { value: 0, took: 0 }
+    None
 }
 
 // A V: an index as an s33, or a primitive.
-pub fn value(grade: u32, bs: &[u8]) -> Pair
+pub fn value(grade: u32, bs: &[u8]) -> Option<Pair>
     ensures { result ≡ pair grade field.Value bs.now }
 {
-    let n = numbers::seen_signed(bs);
-    if 0 < n.took {
-        return Pair {
+    if let Some(n) = numbers::seen_signed(bs) {
+        return Some(Pair {
             took: n.took,
             a: 1,
             b: n.value,
-        };
+        });
     }
-    let p = primitive(grade, bs);
-    Pair {
+    let p = primitive(grade, bs)?;
+    Some(Pair {
         took: p.took,
         a: 0,
         b: p.value,
-    }
+    })
 }
 
-// What stands behind a byte.
+// The same behind a byte.
 fn behind(v: Pair) -> Pair
     requires { v.took ≤ 8 }
     ensures { result ≡ behind_one v }
 {
-    if 0 < v.took {
-        return Pair {
-            took: 1 + v.took,
-            a: v.a,
-            b: v.b,
-        };
+    Pair {
+        took: 1 + v.took,
+        a: v.a,
+        b: v.b,
     }
-    no_pair()
 }
 
 // An O: 00, or 01 and a V.
-pub fn optional(grade: u32, bs: &[u8]) -> Pair
+pub fn optional(grade: u32, bs: &[u8]) -> Option<Pair>
     ensures { result ≡ pair grade field.Optional bs.now }
 {
     if 0 < bs.len() {
         let b = bs[0];
         if b == 0x01 {
-            return behind(value(grade, &bs[1..]));
+            let v = value(grade, &bs[1..])?;
+            return Some(behind(v));
         }
         if b == 0x00 {
-            return Pair {
+            return Some(Pair {
                 took: 1,
                 a: 2,
                 b: 0,
-            };
+            });
         }
     }
-    no_pair()
+    None
 }
 
 // A function's result: 00 and a V, or 01 00.
-pub fn result(grade: u32, bs: &[u8]) -> Pair
+pub fn result(grade: u32, bs: &[u8]) -> Option<Pair>
     ensures { result ≡ pair grade field.Result bs.now }
 {
     if 1 < bs.len() {
         let b = bs[0];
         if b == 0x00 {
-            return behind(value(grade, &bs[1..]));
+            let v = value(grade, &bs[1..])?;
+            return Some(behind(v));
         }
         if b == 0x01 {
             if bs[1] == 0x00 {
-                return Pair {
+                return Some(Pair {
                     took: 2,
                     a: 2,
                     b: 0,
-                };
+                });
             }
         }
     }
-    no_pair()
+    None
 }
 
 // A name: its length and its bytes, which are UTF-8. Its first word is how many bytes stand before them.
-pub fn name(bs: &[u8]) -> Pair
+pub fn name(bs: &[u8]) -> Option<Pair>
     ensures { result ≡ pair 1 field.Name bs.now }
 {
-    let n = numbers::seen_unsigned(bs);
+    let n = numbers::seen_unsigned(bs)?;
     let start = n.took;
-    if 0 < start {
-        let end = start + (n.value as usize);
-        if end <= bs.len() {
-            if numbers::is_text(&bs[start..end]) {
-                return Pair {
-                    took: end,
-                    a: start as u32,
-                    b: n.value,
-                };
-            }
+    let end = start + (n.value as usize);
+    if end <= bs.len() {
+        if numbers::is_text(&bs[start..end]) {
+            return Some(Pair {
+                took: end,
+                a: start as u32,
+                b: n.value,
+            });
         }
     }
-    no_pair()
+    None
 }
 
 // Whether an input and a grade pass no limit, the grade is not below that of the lead, and there is an input.

@@ -1,4 +1,5 @@
 -- What was written is read back, for every plan, from the law of each field; or it is refused at its first byte above the grade.
+use Rattle.std.specs.Prelude.{Err, Ok}
 use Prim.Native.Nat.{ℕ, ◌+◌}
 use native.Mathlib.Omega.{arith}
 use mathlib.Core.Path.{◌≡◌, refl, sym, ap, ◌∙◌, subst}
@@ -6,11 +7,11 @@ use mathlib.Core.List.{List, [], ◌++◌, append_assoc, append-nil}
 use lib.ListN.{length, drop, length-append}
 use lib.Seq.{drop_at, drop-drop}
 use Rattle.fields.specs.declared.Field.{Field}
-use Rattle.fields.specs.declared.Flaw.{Flaw}
-use Rattle.fields.specs.declared.Flaw.TheVariants.{Right, Wrong}
+use Rattle.fields.specs.Flaw.{Flaw}
+use Rattle.fields.specs.Flaw.{Right}
 use Rattle.fields.specs.declared.Refusal.TheVariants.{Newer}
-use Rattle.fields.specs.declared.Leaf.{Leaf}
-use Rattle.fields.specs.declared.Leaf.TheVariants.{Fine, Bad}
+use Rattle.fields.specs.Leaf.{Leaf}
+use Rattle.fields.specs.Leaf.{Fine, Bad}
 use Rattle.fields.specs.Words.{Words, wide}
 use Rattle.writing.specs.Binary.{bytes}
 use Rattle.reading.specs.Fill.{fill}
@@ -26,8 +27,8 @@ use Rattle.writing.proofs.ByteLaws.{drop-words}
 
 -- a walk that meets no fault
 abbrev pub Reaches : Leaf → Type 0
-Reaches (Fine at made) = Unit {0}
-Reaches (Bad w j) = ⊥
+Reaches (Ok span) = Unit {0}
+Reaches (Err fault) = ⊥
 
 -- what a reader says of a field with such a mark, that takes t and makes m
 abbrev pub answer : Mark → ℕ → ℕ → Leaf
@@ -104,7 +105,7 @@ module _ (lead g : ℕ) (pool input : List ℕ)
           → Reaches (next (unless l (Fine t m)) (λ t m. walk (writer pool) p (drop t ws) (at + t) (made + m)) at)
           → drop b input ≡ X (took (unless l (Fine t m)))
           → Ends (first_mark lead g pool (step f k) ws b) (took (unless l (Fine t m)))
-      go (Wrong v j) e ih u q = absurd u
+      go (Err fault) e ih u q = absurd u
       go Right e ih u q = marked (mark lead g f ws) refl h.scans
         where
           e_x : X t ≡ bs ++ (Y t ++ rest)

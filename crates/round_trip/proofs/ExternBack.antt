@@ -1,4 +1,5 @@
 -- Names and extern names that were written are read back; an extern name with options is refused at its lead below grade 3.
+use Rattle.std.specs.Prelude.{Err, Ok}
 use Prim.Native.Nat.{ℕ, suc, ◌+◌, ◌-◌, ◌^◌, ◌≤◌, ◌<◌}
 use native.Mathlib.Omega.{arith}
 use native.Mathlib.Nat.{add-zero}
@@ -10,16 +11,16 @@ use borrow.Author.Tests.{eqb-true, lt-ltb, le-leb, lt-leb, eq-eqb, ne_eqb}
 use lib.Dec.{eqb, ltb, leb}
 use lib.ListN.{length, get_or, take, drop, length-append, length-drop}
 use lib.Seq.{length-take-le, take_at, drop_at, drop-drop, get_or-drop}
-use Rattle.numbers.specs.declared.leb.Taken.TheVariants as taken
+use Rattle.numbers.specs.Taken as taken
 use Rattle.numbers.specs.Integers.{u32}
 use Rattle.numbers.specs.Leb.{unsigned, take_unsigned}
 use Rattle.numbers.specs.Text.{text}
 use Rattle.numbers.proofs.LebLaws.{taken_back, take-one}
 use Rattle.fields.specs.declared.Field.TheVariants as field
-use Rattle.fields.specs.declared.Flaw.TheVariants.{Right, Wrong}
+use Rattle.fields.specs.Flaw.{Right, Wrong}
 use Rattle.fields.specs.declared.Refusal.TheVariants.{Tag, Newer}
-use Rattle.fields.specs.declared.Leaf.{Leaf}
-use Rattle.fields.specs.declared.Leaf.TheVariants.{Fine, Bad}
+use Rattle.fields.specs.Leaf.{Leaf}
+use Rattle.fields.specs.Leaf.{Fine, Bad}
 use Rattle.fields.specs.Words.{word, Words, chars, wide}
 use Rattle.writing.specs.Binary.{name, flag, slot_at, slots_at, slots, externname, bytes}
 use Rattle.reading.specs.Fill.{size_in, value_in, fill_name, fill_slot, fill_slots, fill_extern, fill}
@@ -270,10 +271,10 @@ module _ {pool : List ℕ} {s size : ℕ} (p : NameRight pool s size) (input xs 
 
 slot-long : (k at : ℕ) (bs : List ℕ) (l : Leaf) → length (fill_slot k at bs l) ≡ 3
 unfolding fill_slot fill_name
-slot-long k at bs (Bad w j) = refl
-slot-long k at bs (Fine from due) = go (eqb due 0) (eqb (byte bs from) k)
+slot-long k at bs (Err fault) = refl
+slot-long k at bs (Ok span) = go (eqb span.made 0) (eqb (byte bs span.took) k)
   where
-    go : (x y : Bool) → length (cond x (0 ∷ 0 ∷ 0 ∷ []) (cond y (1 ∷ fill_name at bs (from + 1)) (0 ∷ 0 ∷ 0 ∷ []))) ≡ 3
+    go : (x y : Bool) → length (cond x (0 ∷ 0 ∷ 0 ∷ []) (cond y (1 ∷ fill_name at bs (span.took + 1)) (0 ∷ 0 ∷ 0 ∷ []))) ≡ 3
     go true y = refl
     go false true = refl
     go false false = refl

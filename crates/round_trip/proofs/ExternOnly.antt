@@ -1,4 +1,5 @@
 -- Names and extern names that are read, written again beside the bytes taken, give these bytes, with each number in its shortest form.
+use Rattle.std.specs.Prelude.{Err, Ok}
 use Prim.Native.Nat.{ℕ, suc, ◌+◌, ◌-◌, ◌^◌, ◌≤◌, ◌<◌}
 use native.Mathlib.Omega.{arith}
 use native.Mathlib.Numerals.{add-one}
@@ -9,8 +10,8 @@ use borrow.Author.Tests.{ltb-true, leb-true, eqb-true, eqb-false, le-leb, ne_eqb
 use lib.Dec.{eqb, ltb, leb}
 use lib.ListN.{length, take, drop, length-take, length-drop}
 use lib.Seq.{length-take-le, take-add, take-take, drop_at, drop-drop, drop-cons}
-use Rattle.numbers.specs.declared.leb.Taken.{Taken}
-use Rattle.numbers.specs.declared.leb.Taken.TheVariants as taken
+use Rattle.numbers.specs.Taken.{Taken}
+use Rattle.numbers.specs.Taken as taken
 use Rattle.numbers.specs.Bytes.{Bytes}
 use Rattle.numbers.specs.Integers.{u32}
 use Rattle.numbers.specs.Leb.{unsigned, take_unsigned}
@@ -18,11 +19,12 @@ use Rattle.numbers.specs.Text.{text, stop}
 use Rattle.numbers.proofs.ExactLaws.{taken-small}
 use Rattle.numbers.proofs.LebLaws.{taken-inside, one_byte}
 use Rattle.fields.specs.declared.Field.TheVariants as field
-use Rattle.fields.specs.declared.Flaw.TheVariants.{Right}
+use Rattle.fields.specs.Flaw.{Right}
 use Rattle.fields.specs.declared.Refusal.TheVariants.{Text, Code}
 use Rattle.fields.specs.Answers.{offset_of}
-use Rattle.fields.specs.declared.Leaf.{Leaf}
-use Rattle.fields.specs.declared.Leaf.TheVariants.{Fine, Bad}
+use Rattle.fields.specs.Leaf.{Leaf}
+use Rattle.fields.specs.Leaf.{Fine, Bad}
+use Rattle.fields.proofs.OutcomeLaws.{fine-same}
 use Rattle.fields.specs.Words.{word, Words, chars, wide}
 use Rattle.writing.specs.Binary.{name, flag, slot_at, slots_at, slots, externname, bytes}
 use Rattle.reading.specs.Fill.{size_in, value_in, fill_name, fill_slot, fill_slots, fill_extern, fill}
@@ -77,8 +79,8 @@ byte_and xs a b y h k e =
     ∙ ap (λ n. take n (drop a xs)) (sym more)
 
 onward-fine : (l : Leaf) (k : ℕ → ℕ → Leaf) (t m : ℕ) → onward l k ≡ Fine t m → (a c : ℕ) × (l ≡ Fine a c) × (k a c ≡ Fine t m)
-onward-fine (Fine a c) k t m e = (a, c, refl, e)
-onward-fine (Bad w j) k t m e = impossible cc
+onward-fine (Ok span) k t m e = (span.took, span.made, refl, e)
+onward-fine (Err fault) k t m e = impossible cc
 
 -- ---- words that are right are judged so
 
@@ -115,25 +117,25 @@ unfolding scan_name
 name_found l t m f e = go (take_unsigned l) refl e
   where
     go : (r : Taken) → take_unsigned l ≡ r → scans.named l r ≡ Fine t m → NameFound l t m
-    go (taken.Value n k) q e = test (stop (take n (drop k l))) (leb (k + n) (length l)) (text (take n (drop k l))) refl refl e
+    go (Ok taken2) q e = test (stop (take taken2.value (drop taken2.took l))) (leb (taken2.took + taken2.value) (length l)) (text (take taken2.value (drop taken2.took l))) refl refl e
       where
-        test : (byte : ℕ) (a b : Bool) → leb (k + n) (length l) ≡ a → text (take n (drop k l)) ≡ b
-            → cond a (cond b (Fine (k + n) 2) (Bad (Text (offset_of byte)) k)) (cut l) ≡ Fine t m → NameFound l t m
+        test : (byte : ℕ) (a b : Bool) → leb (taken2.took + taken2.value) (length l) ≡ a → text (take taken2.value (drop taken2.took l)) ≡ b
+            → cond a (cond b (Fine (taken2.took + taken2.value) 2) (Bad (Text (offset_of byte)) taken2.took)) (cut l) ≡ Fine t m → NameFound l t m
         test byte true true ha hb e =
-            let et : k + n ≡ t = cc in
-            let i = taken-inside u32 l n k q in
-            let j : k + n ≤ length l = leb-true _ _ ha in
+            let et : taken2.took + taken2.value ≡ t = (fine-same e).0 in
+            let i = taken-inside u32 l taken2.value taken2.took q in
+            let j : taken2.took + taken2.value ≤ length l = leb-true _ _ ha in
             record {
-              size = n;
-              number = k;
+              size = taken2.value;
+              number = taken2.took;
               found = q;
-              small = taken-small 128 l n k q;
+              small = taken-small 128 l taken2.value taken2.took q;
               some = i.0;
-              again = padded-number u32 l n k f q;
+              again = padded-number u32 l taken2.value taken2.took f q;
               whole = sym et;
               inside = omega arith;
               says = hb;
-              makes = cc;
+              makes = sym (fine-same e).1;
             }
         test byte true false ha hb e = impossible cc
         test byte false b ha hb e = impossible cc
@@ -191,8 +193,8 @@ module _ (e : ℕ) (input xs : List ℕ) (b : ℕ) (inp : drop b input ≡ xs) (
       let o = onward-fine (past at (scan_name (drop at xs))) (λ next m. Fine next x) a' y s in
       let p = past-fine at (scan_name (drop at xs)) o.0 o.1 o.2 in
       let r = name_found (drop at xs) p.0 o.1 (bytes-behind xs at fx) p.1 in
-      let e₁ : o.0 ≡ a' = let q = o.3 in cc in
-      let e₂ : x ≡ y = let q = o.3 in cc in
+      let e₁ : o.0 ≡ a' = (fine-same o.3).0 in
+      let e₂ : x ≡ y = (fine-same o.3).1 in
       let ep = p.2 in
       let some = r.some in
       let whole = r.whole in
@@ -241,12 +243,12 @@ module _ (e : ℕ) (input xs : List ℕ) (b : ℕ) (inp : drop b input ≡ xs) (
           let k = (string_seen (at + 1) (due - 1) a' due' s).0 in
           let p = k.place in
           (omega arith, λ h. k.inside)
-      there_is false s = let p : at ≡ a' = cc in (omega arith, λ h. omega arith)
+      there_is false s = let p : at ≡ a' = (fine-same s).0 in (omega arith, λ h. omega arith)
 
       go : (x : Bool)
           → cond x (Fine at 0) (there xs at (cond (eqb (byte xs at) k) (string_at xs (at + 1) (due - 1)) (Fine at due))) ≡ Fine a' due'
           → (at ≤ a') × (at ≤ length xs → a' ≤ length xs)
-      go true s = let p : at ≡ a' = cc in (omega arith, λ h. omega arith)
+      go true s = let p : at ≡ a' = (fine-same s).0 in (omega arith, λ h. omega arith)
       go false s = there_is (eqb (byte xs at) k) (there-fine xs at _ a' due' s).1
 
   slot_seen : (k at due a' due' : ℕ) → slot_scan k xs at due ≡ Fine a' due' → b + a' ≤ e → SlotSeen k at due a' due'
@@ -287,15 +289,15 @@ module _ (e : ℕ) (input xs : List ℕ) (b : ℕ) (inp : drop b input ≡ xs) (
                 (byte_and xs at a' k i (omega (arith, y.0.place)) (eqb-true _ _ hz));
             says = v.says;
           }
-      there_is false hz hx i s = stays (cc) (cc) (simp (hx, hz))
+      there_is false hz hx i s = stays (sym (fine-same s).0) (sym (fine-same s).1) (simp (hx, hz))
 
       go : (x : Bool) → eqb due 0 ≡ x
           → cond x (Fine at 0) (there xs at (cond (eqb (byte xs at) k) (string_at xs (at + 1) (due - 1)) (Fine at due))) ≡ Fine a' due'
           → SlotSeen k at due a' due'
       go true hx s =
           let z : due ≡ 0 = eqb-true due 0 hx in
-          let p : at ≡ a' = cc in
-          let q : 0 ≡ due' = cc in
+          let p : at ≡ a' = (fine-same s).0 in
+          let q : 0 ≡ due' = (fine-same s).1 in
           stays (sym p) (omega arith) (simp hx)
       go false hx s = let p = there-fine xs at _ a' due' s in there_is (eqb (byte xs at) k) refl hx p.0 p.1
 
@@ -324,24 +326,24 @@ module _ (e : ℕ) (input xs : List ℕ) (b : ℕ) (inp : drop b input ≡ xs) (
       l = drop at xs
 
       go : (r : Taken) → take_unsigned l ≡ r → counted (length xs) r at ≡ Fine h n → Counted at h n
-      go (taken.Value c k) q s = test (eqb c 0) (ltb c 4) refl refl s
+      go (Ok taken2) q s = test (eqb taken2.value 0) (ltb taken2.value 4) refl refl s
         where
-          test : (x y : Bool) → eqb c 0 ≡ x → ltb c 4 ≡ y → cond x (Bad Code at) (cond y (Fine (at + k) c) (Bad Code at)) ≡ Fine h n → Counted at h n
+          test : (x y : Bool) → eqb taken2.value 0 ≡ x → ltb taken2.value 4 ≡ y → cond x (Bad Code at) (cond y (Fine (at + taken2.took) taken2.value) (Bad Code at)) ≡ Fine h n → Counted at h n
           test true y hx hy s = impossible cc
           test false true hx hy s =
-              let ec : c ≡ n = cc in
-              let eh : at + k ≡ h = cc in
-              let four = ltb-true c 4 hy in
-              let i = taken-inside u32 l c k q in
-              let size : k ≡ h - at = omega arith in
-              let nz = eqb-false c 0 hx in
+              let ec : taken2.value ≡ n = (fine-same s).1 in
+              let eh : at + taken2.took ≡ h = (fine-same s).0 in
+              let four = ltb-true taken2.value 4 hy in
+              let i = taken-inside u32 l taken2.value taken2.took q in
+              let size : taken2.took ≡ h - at = omega arith in
+              let nz = eqb-false taken2.value 0 hx in
               record {
                 some = λ z. nz (ec ∙ z);
                 before = omega arith;
                 inside = omega (arith, length-drop at xs, i);
                 again =
-                    padded_by (ap (λ c. c ∷ []) (sym ec) ∙ sym (one_byte 128 c (omega arith)))
-                    (padded-number u32 l c k (bytes-behind xs at fx) q) (ap (λ n. take n l) size);
+                    padded_by (ap (λ (c : ℕ). c ∷ []) (sym ec) ∙ sym (one_byte 128 taken2.value (omega arith)))
+                    (padded-number u32 l taken2.value taken2.took (bytes-behind xs at fx) q) (ap (λ n. take n l) size);
               }
           test false false hx hy s = impossible cc
       go taken.Cut q s = impossible cc
@@ -495,7 +497,7 @@ unfolding end_scan
 end_fine xs at due t m s = go (eqb due 0) refl s
   where
     go : (x : Bool) → eqb due 0 ≡ x → cond x (Fine at 11) (there xs at (Bad Code at)) ≡ Fine t m → (due ≡ 0) × (at ≡ t) × (m ≡ 11)
-    go true h s = (eqb-true _ _ h, (cc), (cc))
+    go true h s = (eqb-true _ _ h, (fine-same s).0, sym (fine-same s).1)
     go false h s = let p = (there-fine xs at (Bad Code at) t m s).1 in impossible cc
 
 pub extern_only : (lead g e : ℕ) (input : List ℕ) (b t m : ℕ) → e < 2 ^ 32 → Bytes (drop b input) → scan_extern g (drop b input) ≡ Fine t m → b + t ≤ e

@@ -1,5 +1,6 @@
 -- What is read of a field, written again beside the bytes taken, gives the field's bytes, with each number in its shortest form, and has
 -- no byte above the grade.
+use Rattle.std.specs.Prelude.{Err, Ok}
 use Prim.Native.Nat.{ℕ, ◌+◌, ◌^◌, ◌≤◌, ◌<◌}
 use native.Mathlib.Omega.{arith}
 use native.Mathlib.Numerals.{add-one}
@@ -13,10 +14,11 @@ use lib.Seq.{take-suc}
 use Rattle.numbers.specs.Bytes.{Bytes}
 use Rattle.fields.specs.declared.Field.{Field}
 use Rattle.fields.specs.declared.Field.TheVariants as field
-use Rattle.fields.specs.declared.Flaw.TheVariants.{Right}
+use Rattle.fields.specs.Flaw.{Right}
 use Rattle.fields.specs.declared.Refusal.TheVariants.{Code}
-use Rattle.fields.specs.declared.Leaf.{Leaf}
-use Rattle.fields.specs.declared.Leaf.TheVariants.{Fine, Bad}
+use Rattle.fields.specs.Leaf.{Leaf}
+use Rattle.fields.specs.Leaf.{Fine, Bad}
+use Rattle.fields.proofs.OutcomeLaws.{fine-same}
 use Rattle.writing.specs.Binary.{optional, functype, flag, representation, bytes}
 use Rattle.reading.specs.Fill.{fill_optional, fill}
 use Rattle.fields.specs.Words.{word, wide}
@@ -41,16 +43,16 @@ zero_seen g xs t m f e = go (scan_optional g xs) refl e
   where
     go : (l : Leaf) → scan_optional g xs ≡ l → then_zero xs l ≡ Fine t m
         → PairSeen Optioned (λ k x. optional k x ++ 0x00 ∷ []) (fill_optional 0x01 xs) xs t m
-    go (Bad w j) s e = impossible cc
-    go (Fine a c) s e = let p = there-fine xs a _ t m e in zero (eqb (byte xs a) 0) refl p.0 p.1
+    go (Err fault) s e = impossible cc
+    go (Ok span) s e = let p = there-fine xs span.took _ t m e in zero (eqb (byte xs span.took) 0) refl p.0 p.1
       where
-        zero : (b : Bool) → eqb (byte xs a) 0 ≡ b → a < length xs → cond b (Fine (a + 1) c) (Bad Code a) ≡ Fine t m
+        zero : (b : Bool) → eqb (byte xs span.took) 0 ≡ b → span.took < length xs → cond b (Fine (span.took + 1) span.made) (Bad Code span.took) ≡ Fine t m
             → PairSeen Optioned (λ k x. optional k x ++ 0x00 ∷ []) (fill_optional 0x01 xs) xs t m
         zero true q h e =
-            let o = optional_seen g xs a c f s in
-            let et : a + 1 ≡ t = cc in
-            let ec : c ≡ m = cc in
-            let z = sym (eqb-true (byte xs a) 0 q) in
+            let o = optional_seen g xs span.took span.made f s in
+            let et : span.took + 1 ≡ t = (fine-same e).0 in
+            let ec : span.made ≡ m = (fine-same e).1 in
+            let z = sym (eqb-true (byte xs span.took) 0 q) in
             record {
               a = o.a;
               b = o.b;
@@ -58,7 +60,7 @@ zero_seen g xs t m f e = go (scan_optional g xs) refl e
               fills = o.fills;
               again =
                   padded_by refl (padded-before (0x00 ∷ []) o.again)
-                  (ap (λ n. take a xs ++ n ∷ []) z ∙ sym (take-suc xs a 0 h) ∙ ap (λ k. take k xs) (sym (add-one a) ∙ et));
+                  (ap (λ n. take span.took xs ++ n ∷ []) z ∙ sym (take-suc xs span.took 0 h) ∙ ap (λ k. take k xs) (sym (add-one span.took) ∙ et));
               inside = omega arith;
               makes = sym ec ∙ o.makes;
             }
@@ -73,8 +75,8 @@ module _ (lead g e : ℕ) (input : List ℕ) (fi : Bytes input) (any : 1 ≤ g) 
       → Only lead g (take e input) input f (drop b input) t m b
   unfolding flaw bytes scan fill view wide functype flag representation mark said
   field_only field.Nothing b t m s h =
-      let et : 0 ≡ t = cc in
-      only-words [] refl refl (cc) (omega arith) (λ more. refl) (λ more. padded-same (ap (λ k. take k (drop b input)) et)) (λ more. refl) (λ more. refl) no_words
+      let et : 0 ≡ t = (fine-same s).0 in
+      only-words [] refl refl (sym (fine-same s).1) (omega arith) (λ more. refl) (λ more. padded-same (ap (λ k. take k (drop b input)) et)) (λ more. refl) (λ more. refl) no_words
       (λ more. refl)
   field_only (field.Fixed x) b t m s h =
       let xs = drop b input in
@@ -86,8 +88,8 @@ module _ (lead g e : ℕ) (input : List ℕ) (fi : Bytes input) (any : 1 ≤ g) 
       fixed true q i s =
           let xs = drop b input in
           let s' = asked-fine g lead 0 (Fine 1 0) t m s in
-          let et : 1 ≡ t = cc in
-          only-words [] refl refl (cc) (omega arith) (λ more. refl)
+          let et : 1 ≡ t = (fine-same s').0 in
+          only-words [] refl refl (sym (fine-same s').1) (omega arith) (λ more. refl)
           (λ more. padded-same (ap (λ n. n ∷ []) (sym (eqb-true _ _ q)) ∙ sym (front xs 0 i) ∙ ap (λ k. take k xs) et)) (λ more. refl)
           (λ more. refl) no_words (λ more. asked_clear g lead 0 (Fine 1 0) t m s 0)
       fixed false q i s = impossible cc

@@ -1,4 +1,5 @@
 -- What is read of a field at a grade has no byte above it, and its words are words of 32 bits.
+use Rattle.std.specs.Prelude.{Err, Ok}
 use Prim.Native.Nat.{ℕ, zero, suc, ◌-◌, ◌^◌, ◌≤◌, ◌<◌}
 use native.Mathlib.Omega.{arith}
 use mathlib.Core.Path.{◌≡◌, refl}
@@ -9,8 +10,9 @@ use lib.Dec.{eqb, ltb}
 use lib.ListN.{length, drop}
 use Rattle.numbers.specs.Leb.{take_unsigned, take_signed}
 use Rattle.fields.specs.declared.Refusal.TheVariants.{Code, Newer}
-use Rattle.fields.specs.declared.Leaf.{Leaf}
-use Rattle.fields.specs.declared.Leaf.TheVariants.{Fine, Bad}
+use Rattle.fields.specs.Leaf.{Leaf}
+use Rattle.fields.specs.Leaf.{Fine, Bad}
+use Rattle.fields.proofs.OutcomeLaws.{fine-same}
 use Rattle.fields.specs.Words.{word, Words}
 use Rattle.reading.specs.Fill.{value_in, primitive, fill_value, fill_optional, fill_reference}
 use Rattle.fields.specs.Grades.{grade_of}
@@ -142,8 +144,8 @@ module _ (g : ℕ) (any : 1 ≤ g) where
   zero_clear xs t m e = go (scan_optional g xs) refl e
     where
       go : (l : Leaf) → scan_optional g xs ≡ l → then_zero xs l ≡ Fine t m → ClearPair (fill_optional 0x01 xs)
-      go (Fine a c) s e = optional_clear xs a c s
-      go (Bad w j) s e = impossible cc
+      go (Ok span) s e = optional_clear xs span.took span.made s
+      go (Err fault) s e = impossible cc
 
   pub result_clear : (xs : List ℕ) (t m : ℕ) → scan_result g xs ≡ Fine t m → ClearPair (fill_optional 0x00 xs)
   unfolding scan_result fill_optional
@@ -176,8 +178,8 @@ module _ (g : ℕ) (any : 1 ≤ g) where
       go false e = impossible cc
 
   three_one : (l : Leaf) (t m : ℕ) → three l ≡ Fine t m → (c : ℕ) × (l ≡ Fine t c)
-  three_one (Fine a c) t m e = (c, let q : a ≡ t = cc in (λ i. Fine (q i) c))
-  three_one (Bad w j) t m e = impossible cc
+  three_one (Ok span) t m e = (span.made, let q : span.took ≡ t = (fine-same e).0 in (λ i. Fine (q i) span.made))
+  three_one (Err fault) t m e = impossible cc
 
   pub reference_clear : (xs : List ℕ) (t m : ℕ) → scan_reference g xs ≡ Fine t m
       → cond (eqb (word (fill_reference xs) 0) 2) (value_mark g (word (fill_reference xs) 1) (word (fill_reference xs) 2) 1) Clear ≡ Clear

@@ -1,5 +1,9 @@
 -- Reading a whole item: what its section takes is read back, or refused at the first byte above the grade; and what is accepted is
 -- written again beside its own bytes, with each number in its shortest form, and has no byte above the grade.
+use Rattle.std.specs.Prelude.{None}
+use Rattle.std.specs.Prelude.{Some}
+use Rattle.std.specs.Prelude.{Option}
+use Rattle.std.specs.Prelude.{Err, Ok}
 use Prim.Native.Nat.{ℕ, ◌+◌, ◌^◌, ◌≤◌, ◌<◌}
 use native.Mathlib.Omega.{arith}
 use mathlib.Core.Path.{◌≡◌, refl, sym, ap, ◌∙◌, subst}
@@ -8,15 +12,12 @@ use borrow.Author.Tests.{le-ltb, le-leb, lt-leb, ne_eqb}
 use lib.ListN.{length, take, drop, length-take}
 use Rattle.numbers.specs.Bytes.{Bytes}
 use Rattle.numbers.proofs.BytesLaws.{sets_back}
-use Rattle.fields.specs.declared.Flaw.{Flaw}
-use Rattle.fields.specs.declared.Flaw.TheVariants.{Right, Wrong}
-use Rattle.fields.specs.declared.Leaf.{Leaf}
-use Rattle.fields.specs.declared.Leaf.TheVariants.{Fine, Bad}
+use Rattle.fields.specs.Flaw.{Flaw}
+use Rattle.fields.specs.Flaw.{Right}
+use Rattle.fields.specs.Leaf.{Leaf}
+use Rattle.fields.specs.Leaf.{Fine}
 use Rattle.fields.specs.declared.Refusal.TheVariants as refusal
-use Rattle.fields.specs.declared.Answer.TheVariants.{Size}
-use Rattle.fields.specs.declared.Found.{Found}
-use Rattle.fields.specs.declared.Found.TheVariants.{Is, Not}
-use Rattle.fields.specs.declared.Read.TheVariants.{Item, Refused}
+use Rattle.fields.specs.Read.{Item, Refused}
 use Rattle.fields.specs.declared.Shape.{Shape}
 use Rattle.fields.specs.Words.{word, Words, wide}
 use Rattle.writing.specs.Binary.{bytes}
@@ -45,8 +46,8 @@ use Rattle.round_trip.specs.Returned.{Returned, ReadBack, ReadsBack}
 
 -- a walk over words that ends, ends past the words of its plan
 abbrev EndsAt : Leaf → ℕ → Type 0
-EndsAt (Fine e m) n = e ≡ n
-EndsAt (Bad w j) n = Unit {0}
+EndsAt (Ok span) n = span.took ≡ n
+EndsAt (Err fault) n = Unit {0}
 
 plan-ends : (pool : List ℕ) (p : Plan) (ws : List ℕ) (at made : ℕ) → EndsAt (walk (writer pool) p ws at made) (at + plan_width pool p ws)
 unfolding walk plan_width judge
@@ -66,11 +67,11 @@ plan-ends pool (step f k) ws at made =
     go Right h =
         let sum : at + wide f + more ≡ at + (wide f + more) = omega arith in
         subst (λ n. EndsAt due n) sum h
-    go (Wrong w j) h = tt
+    go (Err fault) h = tt
 
 -- where nothing is refused before, an item is read by its shape
 read_shaped : (s : Shape) (kind lead g : ℕ) (input room : List ℕ) → 1 ≤ g → g ≤ 3 → length input ≤ 2 ^ 30 → 1 ≤ length input
-    → read_item (Is s) kind lead g input room ≡ roomed (scanned lead g s input) (filled kind lead g s input) room
+    → read_item (Some s) kind lead g input room ≡ roomed (scanned lead g s input) (filled kind lead g s input) room
 unfolding read_item
 read_shaped s kind lead g input room any top short some =
     let full : length input ≡ 0 → ⊥ = λ z. omega arith in
@@ -78,10 +79,10 @@ read_shaped s kind lead g input room any top short some =
 
 -- the bytes of a row that its section takes, with anything behind them, are read as the same item and taken as far as they were
 -- written; or NEWER at the first byte above the grade
-pub item_back : (s : Shape) (lead g : ℕ) (row pool : List ℕ) (m : ℕ) → Words row → measured_row (Is s) row pool ≡ Size m
+pub item_back : (s : Shape) (lead g : ℕ) (row pool : List ℕ) (m : ℕ) → Words row → measured_row (Some s) row pool ≡ Ok m
     → (rest input room : List ℕ) → input ≡ written s pool row 1 ++ rest
     → 1 ≤ g → g ≤ 3 → length input ≤ 2 ^ 30 → 1 ≤ length input
-    → ReadBack (row_mark (Is s) lead g pool row) s pool row input room m (read_item (Is s) (word row 0) lead g input room)
+    → ReadBack (row_mark (Some s) lead g pool row) s pool row input room m (read_item (Some s) (word row 0) lead g input room)
 unfolding row_mark roomed
 item_back s lead g row pool m fw e rest input room q any top short some =
     rw (read_shaped s (word row 0) lead g input room any top short some)
@@ -89,7 +90,7 @@ item_back s lead g row pool m fw e rest input room q any top short some =
   where
     k : Sized s row 1 pool m
     k =
-        let a = accepted (Is s) row pool m e in
+        let a = accepted (Some s) row pool m e in
         let same : a.shape ≡ s = cc a.is in
         subst (λ t. Sized t row 1 pool m) same a.sized
 
@@ -137,41 +138,41 @@ item_back s lead g row pool m fw e rest input room q any top short some =
             }
 
 -- the same of a kind that is found
-pub found_back : (found : Found) (lead g : ℕ) (row pool : List ℕ) (m : ℕ) → Words row → measured_row found row pool ≡ Size m
+pub found_back : (found : Option Shape) (lead g : ℕ) (row pool : List ℕ) (m : ℕ) → Words row → measured_row found row pool ≡ Ok m
     → (rest input room : List ℕ) → input ≡ row_bytes found pool row ++ rest
     → 1 ≤ g → g ≤ 3 → length input ≤ 2 ^ 30 → 1 ≤ length input
     → ReadsBack found (row_mark found lead g pool row) pool row input room m (read_item found (word row 0) lead g input room)
 unfolding row_bytes
-found_back (Is s) lead g row pool m fw e rest input room q any top short some =
+found_back (Some s) lead g row pool m fw e rest input room q any top short some =
     record { shape = s; is = refl; reads = item_back s lead g row pool m fw e rest input room q any top short some }
-found_back Not lead g row pool m fw e rest input room q any top short some =
-    let no = (accepted Not row pool m e).is in
+found_back None lead g row pool m fw e rest input room q any top short some =
+    let no = (accepted None row pool m e).is in
     impossible cc
 
 -- ---- what is accepted is written again
 
 -- a row that was read at a grade, and the bytes that were taken: the writer accepts it, those bytes as the pool, and writes it again
-pub record WrittenAgain (found : Found) (lead g : ℕ) (input taken row : List ℕ) : Type 0 where
+pub record WrittenAgain (found : Option Shape) (lead g : ℕ) (input taken row : List ℕ) : Type 0 where
   pub small : Words row
   pub clear : row_mark found lead g taken row ≡ Clear
-  pub accepts : measured_row found row taken ≡ Size (length (row_bytes found taken row))
+  pub accepts : measured_row found row taken ≡ Ok (length (row_bytes found taken row))
   pub again : Padded taken (row_bytes found taken row)
   -- as the bytes of any row that is the same item
-  pub same : (s : Shape) → found ≡ Is s → (pool other : List ℕ) (m : ℕ) → measured_row found other pool ≡ Size m → SameItem s pool other input row
+  pub same : (s : Shape) → found ≡ Some s → (pool other : List ℕ) (m : ℕ) → measured_row found other pool ≡ Ok m → SameItem s pool other input row
       → row_bytes found taken row ≡ row_bytes found pool other
 
 -- words that are judged right beside a pool, and say what a row that is taken says, are written as that row
-same-written : (s : Shape) (pool row : List ℕ) (m : ℕ) → measured_row (Is s) row pool ≡ Size m
+same-written : (s : Shape) (pool row : List ℕ) (m : ℕ) → measured_row (Some s) row pool ≡ Ok m
     → (pool' ws : List ℕ) (q n : ℕ) → judged s pool' ws 1 ≡ Fine q n → SameFields pool pool' (plan s) (drop 1 row) (drop 1 ws)
     → written s pool' ws 1 ≡ written s pool row 1
 same-written s pool row m a pool' ws q n j same =
-    let k = accepted (Is s) row pool m a in
+    let k = accepted (Some s) row pool m a in
     let here : k.shape ≡ s = cc k.is in
     let sized : Sized s row 1 pool m = subst (λ t. Sized t row 1 pool m) here k.sized in
     same_bytes pool pool' (plan s) (drop 1 row) (drop 1 ws) 1 0 1 0 (subst Reaches (sym sized.judges) tt) (subst Reaches (sym j) tt) same
 
 -- what is accepted and took at most 65,536 bytes
-pub item-only : (found : Found) (kind lead g : ℕ) (input room after : List ℕ) (q e : ℕ) → Bytes input → 1 ≤ g → kind < 2 ^ 32
+pub item-only : (found : Option Shape) (kind lead g : ℕ) (input room after : List ℕ) (q e : ℕ) → Bytes input → 1 ≤ g → kind < 2 ^ 32
     → read_item found kind lead g input room ≡ left_row (Item q e) after → e ≤ 65536
     → (word (take q after) 0 ≡ kind) × WrittenAgain found lead g input (take e input) (take q after)
 unfolding row_bytes row_mark
@@ -200,11 +201,11 @@ item-only found kind lead g input room after q e fi any known r few =
         clear = (λ i. row_mark (t.is i) lead g pool (back i)) ∙ o.clear;
         accepts =
             (λ i. measured_row (t.is i) (back i) pool) ∙ sized-accepted s ws pool n k
-            ∙ ap (λ l. Size (length l)) (sym is);
+            ∙ ap (λ l. Ok (length l)) (sym is);
         again = padded_by is o.again refl;
         same = λ s' is' pool' other m a same.
             let here : s ≡ s' = let f = sym t.is ∙ is' in cc in
-            let sized = subst (λ f. measured_row f other pool' ≡ Size m) is' a in
+            let sized = subst (λ f. measured_row f other pool' ≡ Ok m) is' a in
             is ∙ ap (λ x. written x pool ws 1) here ∙ same-written s' pool' other m sized pool ws q n (subst (λ x. judged x pool ws 1 ≡ Fine q n) here o.judges)
             (subst (λ x. SameFields pool' pool (plan x) (drop 1 other) (drop 1 ws)) here
             (o.tells pool' (drop 1 other)
@@ -215,7 +216,7 @@ item-only found kind lead g input room after q e fi any known r few =
     )
 
 -- so the row that is read, whose kind finds its shape again, is written again
-pub written_again : (find : ℕ → Found) (lead : ℕ → ℕ) (kind g : ℕ) (input room after : List ℕ) (q e : ℕ) → Bytes input → 1 ≤ g → kind < 2 ^ 32
+pub written_again : (find : ℕ → Option Shape) (lead : ℕ → ℕ) (kind g : ℕ) (input room after : List ℕ) (q e : ℕ) → Bytes input → 1 ≤ g → kind < 2 ^ 32
     → read_item (find kind) kind (lead kind) g input room ≡ left_row (Item q e) after → e ≤ 65536
     → WrittenAgain (find (word (take q after) 0)) (lead (word (take q after) 0)) g input (take e input) (take q after)
 written_again find lead kind g input room after q e fi any known r few =

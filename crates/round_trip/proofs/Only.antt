@@ -1,5 +1,6 @@
 -- What is accepted, written again beside the bytes that were taken, gives these bytes, with each number in its shortest form; and it has
 -- no byte above the grade: for every plan, from the law of each field.
+use Rattle.std.specs.Prelude.{Err, Ok}
 use Prim.Native.Nat.{ℕ, ◌+◌, ◌-◌, ◌≤◌}
 use native.Mathlib.Omega.{arith}
 use mathlib.Core.Path.{◌≡◌, refl, sym, ap, ◌∙◌, subst}
@@ -7,9 +8,10 @@ use mathlib.Core.List.{List, ◌++◌, append_assoc}
 use lib.ListN.{length, take, drop, length-append}
 use lib.Seq.{drop_at, drop-drop, take-add}
 use Rattle.fields.specs.declared.Field.{Field}
-use Rattle.fields.specs.declared.Flaw.TheVariants.{Right}
-use Rattle.fields.specs.declared.Leaf.{Leaf}
-use Rattle.fields.specs.declared.Leaf.TheVariants.{Fine, Bad}
+use Rattle.fields.specs.Flaw.{Right}
+use Rattle.fields.specs.Leaf.{Leaf}
+use Rattle.fields.specs.Leaf.{Fine}
+use Rattle.fields.proofs.OutcomeLaws.{fine-same}
 use Rattle.writing.specs.Binary.{bytes}
 use Rattle.reading.specs.Fill.{fill}
 use Rattle.fields.specs.Words.{Words, wide}
@@ -28,8 +30,8 @@ use Rattle.numbers.proofs.Impossible.{impossible}
 
 -- a walk ends no earlier than it starts
 abbrev pub Past : Leaf → ℕ → Type 0
-Past (Fine e q) at = at ≤ e
-Past (Bad w j) at = Unit {0}
+Past (Ok span) at = at ≤ span.took
+Past (Err fault) at = Unit {0}
 
 pub walk-grows : (s : Side) (p : Plan) (xs : List ℕ) (at made : ℕ) → Past (walk s p xs at made) at
 unfolding walk
@@ -37,13 +39,13 @@ walk-grows s end xs at made = omega arith
 walk-grows s (step f k) xs at made = go (s.look f xs) (λ t m. walk-grows s (k (s.tell f at xs)) (drop t xs) (at + t) (made + m))
   where
     less : (w : Leaf) (t : ℕ) → Past w (at + t) → Past w at
-    less (Fine e q) t h = omega arith
-    less (Bad w j) t h = tt
+    less (Ok span) t h = omega arith
+    less (Err fault) t h = tt
 
     go : (l : Leaf) → ((t m : ℕ) → Past (walk s (k (s.tell f at xs)) (drop t xs) (at + t) (made + m)) (at + t))
         → Past (next l (λ t m. walk s (k (s.tell f at xs)) (drop t xs) (at + t) (made + m)) at) at
-    go (Fine t m) ih = less (walk s (k (s.tell f at xs)) (drop t xs) (at + t) (made + m)) t (ih t m)
-    go (Bad w j) ih = tt
+    go (Ok span) ih = less (walk s (k (s.tell f at xs)) (drop span.took xs) (at + span.took) (made + span.made)) span.took (ih span.took span.made)
+    go (Err fault) ih = tt
 
 -- the words that are read of a field at b, which takes t bytes of xs and makes m words, are right beside the pool, are written again
 -- there, say there what they say beside the input, and mark no form above the grade
@@ -104,8 +106,8 @@ module _ (lead g : ℕ) (pool input : List ℕ) (e q : ℕ)
       → Ends p b c (outs (reader lead g input) p b (drop b input))
   unfolding walk outs first_mark SameFields
   read_only end b c r =
-      let eb : b ≡ e = cc in
-      let ec : c ≡ q = cc in
+      let eb : b ≡ e = (fine-same r).0 in
+      let ec : c ≡ q = (fine-same r).1 in
       let z : e - b ≡ 0 = omega arith in
       record {
         count = omega arith;
@@ -134,68 +136,68 @@ module _ (lead g : ℕ) (pool input : List ℕ) (e q : ℕ)
           → ((t m : ℕ) → walk (reader lead g input) p (drop (b + t) input) (b + t) (c + m) ≡ Fine e q → Ends p (b + t) (c + m) (U t))
           → next l (λ t m. walk (reader lead g input) p (drop t xs) (b + t) (c + m)) b ≡ Fine e q
           → Ends (step f k) b c (fill g f b xs ++ outs (reader lead g input) p (b + took l) (drop (took l) xs))
-      go (Bad v j) s ih r = impossible cc
-      go (Fine t m) s ih r =
+      go (Err fault) s ih r = impossible cc
+      go (Ok span) s ih r =
           let x = writer pool in
           let y = reader lead g input in
-          let dd : drop t xs ≡ drop (b + t) input = drop-drop t b input in
-          let r' : walk y p (drop (b + t) input) (b + t) (c + m) ≡ Fine e q = ap (λ l. walk y p l (b + t) (c + m)) (sym dd) ∙ r in
-          let inside : b + t ≤ e = subst (λ w. Past w (b + t)) r' (walk-grows y p (drop (b + t) input) (b + t) (c + m)) in
-          let h = only f b t m s inside in
-          let i = ih t m r' in
+          let dd : drop span.took xs ≡ drop (b + span.took) input = drop-drop span.took b input in
+          let r' : walk y p (drop (b + span.took) input) (b + span.took) (c + span.made) ≡ Fine e q = ap (λ l. walk y p l (b + span.took) (c + span.made)) (sym dd) ∙ r in
+          let inside : b + span.took ≤ e = subst (λ w. Past w (b + span.took)) r' (walk-grows y p (drop (b + span.took) input) (b + span.took) (c + span.made)) in
+          let h = only f b span.took span.made s inside in
+          let i = ih span.took span.made r' in
           let i₀ = i.count in
           let ws = fill g f b xs in
-          let n : length ws ≡ m = h.fills ∙ sym h.makes in
-          let la : length (ws ++ U t) ≡ length ws + length (U t) = length-append ws (U t) in
-          let all : (more : List ℕ) → (ws ++ U t) ++ more ≡ ws ++ (U t ++ more) = append_assoc ws (U t) in
-          let bs : List ℕ → List ℕ = λ more. bytes pool f (ws ++ (U t ++ more)) in
-          let lx : (more : List ℕ) → judge pool f ((ws ++ U t) ++ more) ≡ Fine m (length (bs more)) =
-          λ more. ap (λ l. judge pool f l) (all more) ∙ judges h (U t ++ more) in
-          let vx : (more : List ℕ) → view pool f ((ws ++ U t) ++ more) ≡ view input f ws =
-          λ more. ap (λ l. view pool f l) (all more) ∙ h.says (U t ++ more) in
-          let dx : (more : List ℕ) → drop m ((ws ++ U t) ++ more) ≡ U t ++ more =
-          λ more. ap (λ l. drop m l) (all more) ∙ drop_at ws (U t ++ more) m n in
-          let whole : (more : List ℕ) (at : ℕ) → outs x (step f k) at ((ws ++ U t) ++ more) ≡ bs more ++ outs x p (at + m) (U t ++ more) =
+          let n : length ws ≡ span.made = h.fills ∙ sym h.makes in
+          let la : length (ws ++ U span.took) ≡ length ws + length (U span.took) = length-append ws (U span.took) in
+          let all : (more : List ℕ) → (ws ++ U span.took) ++ more ≡ ws ++ (U span.took ++ more) = append_assoc ws (U span.took) in
+          let bs : List ℕ → List ℕ = λ more. bytes pool f (ws ++ (U span.took ++ more)) in
+          let lx : (more : List ℕ) → judge pool f ((ws ++ U span.took) ++ more) ≡ Fine span.made (length (bs more)) =
+          λ more. ap (λ l. judge pool f l) (all more) ∙ judges h (U span.took ++ more) in
+          let vx : (more : List ℕ) → view pool f ((ws ++ U span.took) ++ more) ≡ view input f ws =
+          λ more. ap (λ l. view pool f l) (all more) ∙ h.says (U span.took ++ more) in
+          let dx : (more : List ℕ) → drop span.made ((ws ++ U span.took) ++ more) ≡ U span.took ++ more =
+          λ more. ap (λ l. drop span.made l) (all more) ∙ drop_at ws (U span.took ++ more) span.made n in
+          let whole : (more : List ℕ) (at : ℕ) → outs x (step f k) at ((ws ++ U span.took) ++ more) ≡ bs more ++ outs x p (at + span.made) (U span.took ++ more) =
           λ more at.
-          ap (λ l. bytes pool f ((ws ++ U t) ++ more) ++ outs x (k (view pool f ((ws ++ U t) ++ more))) (at + took l) (drop (took l) ((ws ++ U t) ++ more))) (lx more)
-          ∙ ap (λ v. bytes pool f ((ws ++ U t) ++ more) ++ outs x (k v) (at + m) (drop m ((ws ++ U t) ++ more))) (vx more)
-          ∙ ap (λ l. bytes pool f ((ws ++ U t) ++ more) ++ outs x p (at + m) l) (dx more)
-          ∙ ap (λ l. bytes pool f l ++ outs x p (at + m) (U t ++ more)) (all more) in
-          let k₁ : t + (e - (b + t)) ≡ e - b = omega arith in
-          subst (λ l. Ends (step f k) b c (ws ++ outs y p (b + t) l)) (sym dd)
+          ap (λ l. bytes pool f ((ws ++ U span.took) ++ more) ++ outs x (k (view pool f ((ws ++ U span.took) ++ more))) (at + took l) (drop (took l) ((ws ++ U span.took) ++ more))) (lx more)
+          ∙ ap (λ v. bytes pool f ((ws ++ U span.took) ++ more) ++ outs x (k v) (at + span.made) (drop span.made ((ws ++ U span.took) ++ more))) (vx more)
+          ∙ ap (λ l. bytes pool f ((ws ++ U span.took) ++ more) ++ outs x p (at + span.made) l) (dx more)
+          ∙ ap (λ l. bytes pool f l ++ outs x p (at + span.made) (U span.took ++ more)) (all more) in
+          let k₁ : span.took + (e - (b + span.took)) ≡ e - b = omega arith in
+          subst (λ l. Ends (step f k) b c (ws ++ outs y p (b + span.took) l)) (sym dd)
           (record {
             count = omega arith;
-            small = words_and ws (U t) h.small i.small;
+            small = words_and ws (U span.took) h.small i.small;
             clear = λ more z.
-                let rest = z + length (bytes pool f ((ws ++ U t) ++ more)) in
-                ap (λ c. ahead c z (first_mark lead g pool (k (view pool f ((ws ++ U t) ++ more))) (drop (wide f) ((ws ++ U t) ++ more)) rest))
-                (ap (λ l. mark lead g f l) (all more) ∙ h.clear (U t ++ more))
-                ∙ ap (λ v. first_mark lead g pool (k v) (drop (wide f) ((ws ++ U t) ++ more)) rest) (vx more)
-                ∙ ap (λ w. first_mark lead g pool p (drop w ((ws ++ U t) ++ more)) rest) (sym h.makes)
+                let rest = z + length (bytes pool f ((ws ++ U span.took) ++ more)) in
+                ap (λ c. ahead c z (first_mark lead g pool (k (view pool f ((ws ++ U span.took) ++ more))) (drop (wide f) ((ws ++ U span.took) ++ more)) rest))
+                (ap (λ l. mark lead g f l) (all more) ∙ h.clear (U span.took ++ more))
+                ∙ ap (λ v. first_mark lead g pool (k v) (drop (wide f) ((ws ++ U span.took) ++ more)) rest) (vx more)
+                ∙ ap (λ w. first_mark lead g pool p (drop w ((ws ++ U span.took) ++ more)) rest) (sym h.makes)
                 ∙ ap (λ l. first_mark lead g pool p l rest) (dx more)
                 ∙ i.clear more rest;
             judges = λ more at made.
-                let os = outs x p (at + m) (U t ++ more) in
+                let os = outs x p (at + span.made) (U span.took ++ more) in
                 let size = length (bs more) in
-                let p₁ : at + m + length (U t) ≡ at + length (ws ++ U t) = omega arith in
-                let q₁ : made + size + length os ≡ made + length (outs x (step f k) at ((ws ++ U t) ++ more)) =
+                let p₁ : at + span.made + length (U span.took) ≡ at + length (ws ++ U span.took) = omega arith in
+                let q₁ : made + size + length os ≡ made + length (outs x (step f k) at ((ws ++ U span.took) ++ more)) =
                 omega (arith, length-append (bs more) os, ap length (whole more at)) in
-                ap (λ l. next l (λ t' m'. walk x (k (view pool f ((ws ++ U t) ++ more))) (drop t' ((ws ++ U t) ++ more)) (at + t') (made + m')) at) (lx more)
-                ∙ ap (λ v. walk x (k v) (drop m ((ws ++ U t) ++ more)) (at + m) (made + size)) (vx more)
-                ∙ ap (λ l. walk x p l (at + m) (made + size)) (dx more)
-                ∙ i.judges more (at + m) (made + size)
+                ap (λ l. next l (λ t' m'. walk x (k (view pool f ((ws ++ U span.took) ++ more))) (drop t' ((ws ++ U span.took) ++ more)) (at + t') (made + m')) at) (lx more)
+                ∙ ap (λ v. walk x (k v) (drop span.made ((ws ++ U span.took) ++ more)) (at + span.made) (made + size)) (vx more)
+                ∙ ap (λ l. walk x p l (at + span.made) (made + size)) (dx more)
+                ∙ i.judges more (at + span.made) (made + size)
                 ∙ (λ i. Fine (p₁ i) (q₁ i));
             again = λ more at.
-                padded_by (whole more at) (padded_both (h.again (U t ++ more)) (i.again more (at + m)))
-                (ap (λ l. take t xs ++ take (e - (b + t)) l) (sym dd) ∙ sym (take-add t (e - (b + t)) xs) ∙ ap (λ n. take n xs) k₁);
+                padded_by (whole more at) (padded_both (h.again (U span.took ++ more)) (i.again more (at + span.made)))
+                (ap (λ l. take span.took xs ++ take (e - (b + span.took)) l) (sym dd) ∙ sym (take-add span.took (e - (b + span.took)) xs) ∙ ap (λ n. take n xs) k₁);
             tells = λ more pool' row same.
-                let vs = (ws ++ U t) ++ more in
+                let vs = (ws ++ U span.took) ++ more in
                 let row' = drop (wide f) row in
                 let tells : said pool f vs ≡ said input f vs =
-                ap (λ l. said pool f l) (all more) ∙ h.tells (U t ++ more) ∙ ap (λ l. said input f l) (sym (all more)) in
+                ap (λ l. said pool f l) (all more) ∙ h.tells (U span.took ++ more) ∙ ap (λ l. said input f l) (sym (all more)) in
                 let goes : k (view pool' f row) ≡ p =
                 ap k (sym (field_same f pool' input row vs same.0).1 ∙ sym (field_same f input pool vs vs tells).1 ∙ vx more) in
-                let past : drop (wide f) vs ≡ U t ++ more = ap (λ w. drop w vs) (sym h.makes) ∙ dx more in
+                let past : drop (wide f) vs ≡ U span.took ++ more = ap (λ w. drop w vs) (sym h.makes) ∙ dx more in
                 let read = subst (λ l. SameFields pool' input p row' l) past (subst (λ z. SameFields pool' input z row' (drop (wide f) vs)) goes same.1) in
                 let kept = subst (λ l. SameFields pool' pool p row' l) (sym past) (i.tells more pool' row' read) in
                 (tells ∙ same.0, subst (λ z. SameFields pool' pool z row' (drop (wide f) vs)) (sym goes) kept);

@@ -7,7 +7,7 @@ use Rattle.numbers.specs.Again.{Again}
 use Rattle.numbers.specs.Bytes.{Bytes}
 use Rattle.numbers.specs.Integers.{Form}
 use Rattle.numbers.specs.Leb.{bytes_of, take_in}
-use Rattle.numbers.specs.declared.leb.Taken.TheVariants.{Value}
+use Rattle.numbers.specs.Taken.{Value}
 use Rattle.numbers.proofs.AgainLaws.{again-same, again_behind, again_both}
 use Rattle.numbers.proofs.ExactLaws.{taken-exactly}
 use Rattle.numbers.proofs.IntegerLaws.{integer-again}

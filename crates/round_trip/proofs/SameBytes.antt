@@ -1,4 +1,5 @@
 -- The same item is written as the same bytes, wherever its names stand.
+use Rattle.std.specs.Prelude.{Err}
 use Prim.Native.Nat.{ℕ, ◌+◌}
 use mathlib.Core.Path.{◌≡◌, refl, ap, ◌∙◌, subst}
 use mathlib.Core.Bool.{cond}
@@ -8,9 +9,9 @@ use lib.ListN.{length, drop}
 use Rattle.numbers.specs.Leb.{unsigned}
 use Rattle.fields.specs.declared.Field.{Field}
 use Rattle.fields.specs.declared.Field.TheVariants as field
-use Rattle.fields.specs.declared.Flaw.{Flaw}
-use Rattle.fields.specs.declared.Flaw.TheVariants.{Right, Wrong}
-use Rattle.fields.specs.declared.Leaf.TheVariants.{Fine}
+use Rattle.fields.specs.Flaw.{Flaw}
+use Rattle.fields.specs.Flaw.{Right}
+use Rattle.fields.specs.Leaf.{Fine}
 use Rattle.fields.specs.Words.{word, chars, wide}
 use Rattle.fields.specs.View.{view, said}
 use Rattle.fields.specs.Walk.{Plan, end, step, next, took, walk, outs}
@@ -134,8 +135,8 @@ same_bytes pool input (step f k) ws vs at made at' made' r r' s =
         ++ outs (writer input) (k (view input f vs)) (at' + took (unless l' (Fine (wide f) (length (bytes input f vs))))) (drop (took (unless l' (Fine (wide f) (length (bytes input f vs))))) vs)
         ≡ bytes pool f ws
         ++ outs (writer pool) (k (view pool f ws)) (at + took (unless l (Fine (wide f) (length (bytes pool f ws))))) (drop (took (unless l (Fine (wide f) (length (bytes pool f ws))))) ws)
-    go (Wrong w j) l' r r' ih = absurd r
-    go Right (Wrong w j) r r' ih = absurd r'
+    go (Err fault) l' r r' ih = absurd r
+    go Right (Err fault) r r' ih = absurd r'
     go Right Right r r' ih =
         let t = wide f in
         let later = ih r (subst (λ v. Reaches (walk (writer input) (k v) (drop t vs) (at' + t) (made' + length (bytes input f vs)))) both.1 r') in

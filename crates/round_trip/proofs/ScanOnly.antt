@@ -1,5 +1,6 @@
 -- What the bytes are that a reader accepts: the words that are made of them are right, and their bytes are those that were taken, with
 -- each number in its shortest form.
+use Rattle.std.specs.Prelude.{Err, Ok}
 use Prim.Native.Nat.{ℕ, suc, ◌+◌, ◌-◌, ◌^◌, ◌≤◌, ◌<◌}
 use native.Mathlib.Omega.{arith}
 use mathlib.Core.Path.{◌≡◌, refl, sym, ap, ◌∙◌}
@@ -9,17 +10,18 @@ use borrow.Author.Tests.{ltb-true, ltb-false, leb-false, eqb-true, eqb-false, lt
 use lib.Dec.{eqb, ltb, leb}
 use lib.ListN.{length, take, drop, length-drop}
 use lib.Seq.{get_or-drop}
-use Rattle.numbers.specs.declared.leb.Taken.{Taken}
-use Rattle.numbers.specs.declared.leb.Taken.TheVariants as taken
+use Rattle.numbers.specs.Taken.{Taken}
+use Rattle.numbers.specs.Taken as taken
 use Rattle.numbers.specs.Bytes.{Bytes}
 use Rattle.numbers.specs.Integers.{u32, s33}
 use Rattle.numbers.specs.Leb.{unsigned, take_unsigned, take_signed}
 use Rattle.numbers.proofs.ExactLaws.{taken-small}
 use Rattle.numbers.proofs.LebLaws.{taken-inside, one_byte}
-use Rattle.fields.specs.declared.Flaw.TheVariants.{Right}
+use Rattle.fields.specs.Flaw.{Right}
 use Rattle.fields.specs.declared.Refusal.TheVariants.{Code, Newer}
-use Rattle.fields.specs.declared.Leaf.{Leaf}
-use Rattle.fields.specs.declared.Leaf.TheVariants.{Fine, Bad}
+use Rattle.fields.specs.Leaf.{Leaf}
+use Rattle.fields.specs.Leaf.{Fine, Bad}
+use Rattle.fields.proofs.OutcomeLaws.{fine-same}
 use Rattle.writing.specs.Binary.{primvaltype, valtype, optional, resultlist, destructor, canonopt, typebound, externdesc, argument, coresortidx, sortidx}
 use Rattle.fields.specs.Words.{indexed}
 use Rattle.reading.specs.Fill.{index, value_in, primitive, fill_value, fill_optional, fill_reference, fill_sort_index}
@@ -49,8 +51,8 @@ asked-fine g n j l t m e = go (ltb g n) e
     go false e = e
 
 pub past-fine : (k : ℕ) (l : Leaf) (t m : ℕ) → past k l ≡ Fine t m → (a : ℕ) × (l ≡ Fine a m) × (t ≡ k + a)
-past-fine k (Fine a c) t m e = let q : c ≡ m = cc in (a, ap (λ n. Fine a n) q, (cc))
-past-fine k (Bad w j) t m e = impossible cc
+past-fine k (Ok span) t m e = let s = fine-same e in (span.took, ap (λ n. Fine span.took n) s.1, sym s.0)
+past-fine k (Err fault) t m e = impossible cc
 
 -- one of two bytes at the front
 pub data Either (y a : ℕ) (l : Leaf) (b : ℕ) (r : Leaf) (t m : ℕ) : Type 0 where
@@ -110,10 +112,10 @@ unfolding scan_index
 index_seen xs n t m f e = go (take_unsigned xs) refl e
   where
     go : (r : Taken) → take_unsigned xs ≡ r → numbered xs r n ≡ Fine t m → IndexSeen xs n t m
-    go (taken.Value x a) q e =
-        let et : a ≡ t = cc in
-        let q' : take_unsigned xs ≡ taken.Value x t = q ∙ ap (λ k. taken.Value x k) et in
-        record { x = x; small = taken-small 128 xs x t q'; reads = ap value_in q; again = padded-number u32 xs x t f q'; inside = (taken-inside u32 xs x t q').2; makes = cc }
+    go (Ok taken2) q e =
+        let et : taken2.took ≡ t = (fine-same e).0 in
+        let q' : take_unsigned xs ≡ taken.Value taken2.value t = q ∙ ap (λ k. taken.Value taken2.value k) et in
+        record { x = taken2.value; small = taken-small 128 xs taken2.value t q'; reads = ap value_in q; again = padded-number u32 xs taken2.value t f q'; inside = (taken-inside u32 xs taken2.value t q').2; makes = sym (fine-same e).1 }
     go taken.Cut q e = impossible cc
     go taken.Bad q e = impossible cc
 
@@ -135,7 +137,7 @@ prime_seen g y n t m e = go (eqb y 0x64) (ltb y 0x73) (ltb y 0x80) refl refl ref
         → cond a (asked g 2 0 (Fine 1 n)) (cond b (Bad Code 0) (cond c (Fine 1 n) (Bad Code 0))) ≡ Fine t m → PrimeSeen y n t m
     go true b c ha hb hc e =
         let q = asked-fine g 2 0 (Fine 1 n) t m e in
-        record { p = 13; right = new; reads = simp ha; again = sym (eqb-true y 0x64 ha); took = cc; makes = cc }
+        record { p = 13; right = new; reads = simp ha; again = sym (eqb-true y 0x64 ha); took = sym (fine-same q).0; makes = sym (fine-same q).1 }
     go false true c ha hb hc e = impossible cc
     go false false true ha hb hc e =
         let low = ltb-false y 0x73 hb in
@@ -143,7 +145,7 @@ prime_seen g y n t m e = go (eqb y 0x64) (ltb y 0x73) (ltb y 0x80) refl refl ref
         let d : 0x7f - y ≡ 13 → ⊥ = omega arith in
         let u : 0x7f - (0x7f - y) ≡ y = omega arith in
         let k : 0x7f - y < 13 = omega arith in
-        record { p = 0x7f - y; right = old k; reads = simp ha; again = simp (ne_eqb _ _ d, u); took = cc; makes = cc }
+        record { p = 0x7f - y; right = old k; reads = simp ha; again = simp (ne_eqb _ _ d, u); took = sym (fine-same e).0; makes = sym (fine-same e).1 }
     go false false false ha hb hc e = impossible cc
 
 -- ---- two words: R is what is right of them, E their bytes, and `words` what is made of the bytes
@@ -167,17 +169,17 @@ value-seen g xs t m f e =
     y = byte xs 0
 
     number : (r : Taken) → take_signed xs ≡ r → numbered xs r 2 ≡ Fine t m → PairSeen Valued valtype (1 ∷ value_in (take_signed xs) ∷ []) xs t m
-    number (taken.Value x a) q e =
-        let et : a ≡ t = cc in
-        let q' : take_signed xs ≡ taken.Value x t = q ∙ ap (λ k. taken.Value x k) et in
+    number (Ok taken2) q e =
+        let et : taken2.took ≡ t = (fine-same e).0 in
+        let q' : take_signed xs ≡ taken.Value taken2.value t = q ∙ ap (λ k. taken.Value taken2.value k) et in
         record {
           a = 1;
-          b = x;
-          right = typed (taken-small 64 xs x t q');
+          b = taken2.value;
+          right = typed (taken-small 64 xs taken2.value t q');
           fills = ap (λ r. 1 ∷ value_in r ∷ []) q;
-          again = padded-number s33 xs x t f q';
-          inside = (taken-inside s33 xs x t q').2;
-          makes = cc;
+          again = padded-number s33 xs taken2.value t f q';
+          inside = (taken-inside s33 xs taken2.value t q').2;
+          makes = sym (fine-same e).1;
         }
     number taken.Cut q e = impossible cc
     number taken.Bad q e = impossible cc
@@ -186,7 +188,7 @@ value-seen g xs t m f e =
         → cond a (Fine 1 2) (cond b (scan_primitive g y (Fine 1 2)) (numbered xs (take_signed xs) 2)) ≡ Fine t m
         → PairSeen Valued valtype (cond a (1 ∷ y ∷ []) (cond b (0 ∷ primitive y ∷ []) (1 ∷ value_in (take_signed xs) ∷ []))) xs t m
     go true b ha hb h e =
-        let et : 1 ≡ t = cc in
+        let et : 1 ≡ t = (fine-same e).0 in
         let low = ltb-true y 0x40 ha in
         let small : y < 2 ^ 32 = omega arith in
         record {
@@ -196,7 +198,7 @@ value-seen g xs t m f e =
           fills = refl;
           again = padded-same (one_byte 64 y low ∙ sym (front xs 0 h) ∙ ap (λ k. take k xs) et);
           inside = omega arith;
-          makes = cc;
+          makes = sym (fine-same e).1;
         }
     go false true ha hb h e =
         let s = prime_seen g y 2 t m e in
@@ -217,8 +219,8 @@ module _ (g : ℕ) (xs : List ℕ) (t m : ℕ) (f : Bytes xs) where
   nothing : (E : ℕ → ℕ → List ℕ) (n : ℕ) → E 2 0 ≡ take n xs → n ≤ length xs → Fine n 2 ≡ Fine t m → (words : List ℕ) → words ≡ 2 ∷ 0 ∷ []
       → PairSeen Optioned E words xs t m
   nothing E n w h e words q =
-      let et : n ≡ t = cc in
-      record { a = 2; b = 0; right = none; fills = q; again = padded-same (w ∙ ap (λ k. take k xs) et); inside = omega arith; makes = cc }
+      let et : n ≡ t = (fine-same e).0 in
+      record { a = 2; b = 0; right = none; fills = q; again = padded-same (w ∙ ap (λ k. take k xs) et); inside = omega arith; makes = sym (fine-same e).1 }
 
   -- a value behind the byte y
   something : (E : ℕ → ℕ → List ℕ) (y : ℕ) → byte xs 0 ≡ y → 0 < length xs → ((k x : ℕ) → Valued k x → E k x ≡ y ∷ valtype k x)
@@ -275,7 +277,7 @@ module _ (g : ℕ) (xs : List ℕ) (t m : ℕ) (f : Bytes xs) where
       go : 0 < length xs → Either (byte xs 0) 0x00 (Fine 1 2) 0x01 (past 1 (scan_index 2 (drop 1 xs))) t m
           → PairSeen Present destructor (cond (eqb (byte xs 0) 0x00) (0 ∷ 0 ∷ []) (1 ∷ index (drop 1 xs) ∷ [])) xs t m
       go h (first y e) =
-          let et : 1 ≡ t = cc in
+          let et : 1 ≡ t = (fine-same e).0 in
           record {
             a = 0;
             b = 0;
@@ -283,7 +285,7 @@ module _ (g : ℕ) (xs : List ℕ) (t m : ℕ) (f : Bytes xs) where
             fills = simp y;
             again = padded-same (ap (λ n. n ∷ []) (sym y) ∙ sym (front xs 0 h) ∙ ap (λ k. take k xs) et);
             inside = omega arith;
-            makes = cc;
+            makes = sym (fine-same e).1;
           }
       go h (second y n e) =
           let p = past-fine 1 (scan_index 2 (drop 1 xs)) t m e in
@@ -329,7 +331,7 @@ module _ (g : ℕ) (xs : List ℕ) (t m : ℕ) (f : Bytes xs) where
           }
       go true false hx hy h asks =
           let e = asked-fine g (grade_of CanonOption (byte xs 0)) 0 (Fine 1 2) t m asks in
-          let et : 1 ≡ t = cc in
+          let et : 1 ≡ t = (fine-same e).0 in
           record {
             a = byte xs 0;
             b = 0;
@@ -337,7 +339,7 @@ module _ (g : ℕ) (xs : List ℕ) (t m : ℕ) (f : Bytes xs) where
             fills = refl;
             again = simp hy (padded-same (sym (front xs 0 h) ∙ ap (λ k. take k xs) et));
             inside = omega arith;
-            makes = cc;
+            makes = sym (fine-same e).1;
           }
       go false y hx hy h e = impossible cc
 
@@ -357,25 +359,25 @@ bit-seen g n x y xs t m e = let p = either-fine xs x _ y _ t m e in go p.0 p.1
   where
     go : 0 < length xs → Either (byte xs 0) x (Fine 1 1) y (asked g n 0 (Fine 1 1)) t m → BitSeen x y xs t m
     go h (first q e) =
-        let et : 1 ≡ t = cc in
+        let et : 1 ≡ t = (fine-same e).0 in
         record {
           k = 0;
           right = off;
           reads = simp (eq-eqb _ _ q);
           again = ap (λ n. n ∷ []) (sym q) ∙ sym (front xs 0 h) ∙ ap (λ k. take k xs) et;
           inside = omega arith;
-          makes = cc;
+          makes = sym (fine-same e).1;
         }
     go h (second q d e) =
         let e' = asked-fine g n 0 (Fine 1 1) t m e in
-        let et : 1 ≡ t = cc in
+        let et : 1 ≡ t = (fine-same e').0 in
         record {
           k = 1;
           right = on;
           reads = simp (ne_eqb _ _ d);
           again = ap (λ n. n ∷ []) (sym q) ∙ sym (front xs 0 h) ∙ ap (λ k. take k xs) et;
           inside = omega arith;
-          makes = cc;
+          makes = sym (fine-same e').1;
         }
 
 -- ---- a reference
@@ -391,8 +393,8 @@ pub record ReferenceSeen (xs : List ℕ) (t m : ℕ) : Type 0 where
   pub makes : m ≡ 3
 
 three-fine : (l : Leaf) (t m : ℕ) → three l ≡ Fine t m → (c : ℕ) × (l ≡ Fine t c) × (m ≡ 3)
-three-fine (Fine a c) t m e = let q : a ≡ t = cc in (c, ap (λ n. Fine n c) q, (cc))
-three-fine (Bad w j) t m e = impossible cc
+three-fine (Ok span) t m e = let s = fine-same e in (span.made, ap (λ n. Fine n span.made) s.0, sym s.1)
+three-fine (Err fault) t m e = impossible cc
 
 -- an index behind two bytes
 record BehindTwo (n : ℕ) (xs : List ℕ) (a b t m : ℕ) : Type 0 where
@@ -463,7 +465,7 @@ reference-seen g xs t m f e =
           makes = k.makes;
         }
     bound_seen false true h p q z e =
-        let et : 2 ≡ t = cc in
+        let et : 2 ≡ t = (fine-same e).0 in
         let z' = sym z in
         let o' = sym (eqb-true y₁ 1 q) in
         record {
@@ -474,7 +476,7 @@ reference-seen g xs t m f e =
           fills = simp (z, p);
           again = padded-same ((λ i. z' i ∷ o' i ∷ []) ∙ sym (front-two xs 0 h) ∙ ap (λ k. take k xs) et);
           inside = omega arith;
-          makes = cc;
+          makes = sym (fine-same e).1;
         }
     bound_seen false false h p q z e = impossible cc
 

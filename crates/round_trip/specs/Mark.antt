@@ -1,9 +1,10 @@
 -- Where a row's first byte above a grade stands, of the row alone.
+use Rattle.std.specs.Prelude.{None}
+use Rattle.std.specs.Prelude.{Some}
+use Rattle.std.specs.Prelude.{Option}
 use Rattle.std.specs.Prelude.{ℕ, ◌+◌, ◌≡◌, cond, List, eqb, ltb, length, drop}
 use Rattle.fields.specs.declared.Field.{Field}
 use Rattle.fields.specs.declared.Field.TheVariants as field
-use Rattle.fields.specs.declared.Found.{Found}
-use Rattle.fields.specs.declared.Found.TheVariants.{Is, Not}
 use Rattle.fields.specs.declared.Shape.{Shape}
 use Rattle.fields.specs.declared.Site.TheVariants.{TypeLead, NameLead, CanonOption}
 use Rattle.fields.specs.declared.Site.TheVariants as site
@@ -62,9 +63,9 @@ first_mark lead g pool (step f k) ws b =
     ahead (mark lead g f ws) b (first_mark lead g pool (k (view pool f ws)) (drop (wide f) ws) (b + length (bytes pool f ws)))
 
 -- the first mark of a whole row, which its kind's lead may be
-unfoldable pub row_mark : Found → ℕ → ℕ → List ℕ → List ℕ → Mark
-row_mark (Is s) lead g pool row = first_mark lead g pool (plan s) (drop 1 row) 0
-row_mark Not lead g pool row = Clear
+unfoldable pub row_mark : Option Shape → ℕ → ℕ → List ℕ → List ℕ → Mark
+row_mark (Some s) lead g pool row = first_mark lead g pool (plan s) (drop 1 row) 0
+row_mark None lead g pool row = Clear
 
 -- the fields of a plan, one after the other, say beside the input what they say beside the pool
 unfoldable pub SameFields : List ℕ → List ℕ → Plan → List ℕ → List ℕ → Type 0

@@ -1,10 +1,10 @@
 -- What reading the bytes of a row leaves, by the first byte above the grade that the row has.
+use Rattle.std.specs.Prelude.{Some}
+use Rattle.std.specs.Prelude.{Option}
 use Rattle.std.specs.Prelude.{ℕ, ◌≤◌, ◌<◌, ◌≡◌, List, length}
 use Rattle.std.proofs.lemmas.List.Edits.{sets}
 use Rattle.fields.specs.declared.Refusal.TheVariants as refusal
-use Rattle.fields.specs.declared.Found.{Found}
-use Rattle.fields.specs.declared.Found.TheVariants.{Is}
-use Rattle.fields.specs.declared.Read.TheVariants.{Item, Refused}
+use Rattle.fields.specs.Read.{Item, Refused}
 use Rattle.fields.specs.declared.Shape.{Shape}
 use Rattle.round_trip.specs.Mark.{Mark, Clear, At, SameItem}
 use Rattle.fields.specs.Answers.{LeftRow, left_row}
@@ -23,7 +23,7 @@ ReadBack Clear s pool row input room size l =
     × (length row ≤ length room → Returned s pool row input room size l)
 
 -- the same of a row whose kind has a shape
-pub record ReadsBack (found : Found) (mark : Mark) (pool row input room : List ℕ) (size : ℕ) (l : LeftRow) : Type 0 where
+pub record ReadsBack (found : Option Shape) (mark : Mark) (pool row input room : List ℕ) (size : ℕ) (l : LeftRow) : Type 0 where
   pub shape : Shape
-  pub is : found ≡ Is shape
+  pub is : found ≡ Some shape
   pub reads : ReadBack mark shape pool row input room size l

@@ -8,7 +8,7 @@ use lib.Dec.{ltb}
 use lib.ListN.{length}
 use lib.Seq.{length-sets}
 use Rattle.numbers.proofs.BytesLaws.{sets-outside, sets_back}
-use Rattle.fields.specs.declared.Answer.{Answer}
+use Rattle.fields.specs.Answer.{Answer}
 use Rattle.types.specs.Write.{head_shape, result_shape}
 use Rattle.sections.specs.declared.Phase.{Phase}
 use Rattle.sections.specs.declared.Phase.TheVariants.{Closed, Opened, Headed}

@@ -1,4 +1,8 @@
 -- The bytes of a row by its family: the writer of a family stores them, and an accepted row's size is their length.
+use Rattle.std.specs.Prelude.{Ok}
+use Rattle.std.specs.Prelude.{Some}
+use Rattle.fields.specs.declared.Shape.{Shape}
+use Rattle.std.specs.Prelude.{Option}
 use Prim.Native.Nat.{ℕ}
 use native.Mathlib.Omega.{arith}
 use mathlib.Core.Path.{◌≡◌, refl, ap, ◌∙◌}
@@ -6,11 +10,9 @@ use mathlib.Core.Bool.{Bool, true, false, cond}
 use mathlib.Core.List.{List, [], ◌∷◌}
 use lib.Dec.{eqb, ltb}
 use lib.ListN.{length, drop, length-append}
-use Rattle.fields.specs.declared.Answer.{Answer}
-use Rattle.fields.specs.declared.Answer.TheVariants.{Size, Refused}
+use Rattle.fields.specs.Answer.{Answer}
+use Rattle.fields.specs.Answer.{Refused}
 use Rattle.fields.specs.declared.Field.TheVariants as field
-use Rattle.fields.specs.declared.Found.{Found}
-use Rattle.fields.specs.declared.Found.TheVariants.{Is}
 use Rattle.fields.specs.declared.Refusal.TheVariants as refusal
 use Rattle.fields.specs.Words.{word, wide}
 use Rattle.writing.specs.Binary.{bytes}
@@ -55,7 +57,7 @@ family-stored family row pool body at = go (entries_of family)
 abbrev limited : {X : Type 0} → List ℕ → List ℕ → X → X → X
 limited row pool limit x = cond (ltb 16384 (length row)) limit (cond (ltb 65536 (length pool)) limit x)
 
-row-limited : (found : Found) (row pool : List ℕ) → limited row pool (Refused refusal.Limit 0) (measured_row found row pool) ≡ measured_row found row pool
+row-limited : (found : Option Shape) (row pool : List ℕ) → limited row pool (Refused refusal.Limit 0) (measured_row found row pool) ≡ measured_row found row pool
 unfolding measured_row
 row-limited found row pool =
     go (ltb 16384 (length row)) (ltb 65536 (length pool)) (cond (eqb (length row) 0) (Refused refusal.Row 0) (measured_found found row pool))
@@ -106,7 +108,7 @@ wrote-limited s count phase row pool body =
 
 -- ---- sizes
 
-row-size : (found : Found) (row pool : List ℕ) (size : ℕ) → measured_row found row pool ≡ Size size → size ≡ length (row_bytes found pool row)
+row-size : (found : Option Shape) (row pool : List ℕ) (size : ℕ) → measured_row found row pool ≡ Ok size → size ≡ length (row_bytes found pool row)
 unfolding row_bytes
 row-size found row pool size e = let a = accepted found row pool size e in rw a.is (size_is_length a.sized)
 
@@ -121,25 +123,25 @@ lift-length (l ∷ f ∷ t ∷ n ∷ os) pool size k =
     ap length (written-right lift_shape pool (l ∷ f ∷ t ∷ n ∷ os) 1 k.end size k.judges)
     ∙ simp length-append (omega (arith, ap length (only-groups pool (field.Choice ∷ field.Nothing ∷ []) _ (choice_element pool) n os)))
 
-canonical_size : (row pool : List ℕ) (size : ℕ) → measured_canonical row pool ≡ Size size → size ≡ length (canonical_bytes pool row)
+canonical_size : (row pool : List ℕ) (size : ℕ) → measured_canonical row pool ≡ Ok size → size ≡ length (canonical_bytes pool row)
 unfolding measured_canonical canonical_bytes
 canonical_size row pool size e = go (eqb (word row 0) 256) e
   where
-    go : (b : Bool) → measured_row (cond b (Is lift_shape) (shape_in table (word row 0))) row pool ≡ Size size
+    go : (b : Bool) → measured_row (cond b (Some lift_shape) (shape_in table (word row 0))) row pool ≡ Ok size
         → size ≡ length (cond b (lift (drop 1 row)) (row_bytes (shape_in table (word row 0)) pool row))
     go true e =
-        let a = accepted (Is lift_shape) row pool size e in
+        let a = accepted (Some lift_shape) row pool size e in
         let same : a.shape ≡ lift_shape = cc in
         let k : Sized lift_shape row 1 pool size = rw same at a.sized in
         size_is_length k ∙ lift-length row pool size k
     go false e = row-size (shape_in table (word row 0)) row pool size e
 
-pub family-size : (family : ℕ) (row pool : List ℕ) (size : ℕ) → measured_family family row pool ≡ Size size
+pub family-size : (family : ℕ) (row pool : List ℕ) (size : ℕ) → measured_family family row pool ≡ Ok size
     → size ≡ length (family_bytes family pool row)
 unfolding measured_family family_bytes measured_type measured_import measured_core_instance measured_instance
 family-size family row pool size e = go (entries_of family) e
   where
-    go : (x : Entries) → measured_by x row pool ≡ Size size → size ≡ length (bytes_by x pool row)
+    go : (x : Entries) → measured_by x row pool ≡ Ok size → size ≡ length (bytes_by x pool row)
     go Types e = row-size (types.shape_of (word row 0)) row pool size e
     go Canonicals e = canonical_size row pool size e
     go Imports e = row-size (imports.shape_of (word row 0)) row pool size e

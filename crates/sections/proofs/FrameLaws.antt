@@ -1,5 +1,6 @@
 -- The frame of a finished section: how long it is, that its parts stored one after the other are the whole, and what finishing
 -- comes to for each way out of the code. Assumes nothing.
+use Rattle.std.specs.Prelude.{Ok}
 use Prim.Native.Nat.{ℕ, ◌+◌, ◌-◌, ◌≤◌, ◌<◌}
 use native.Mathlib.Omega.{arith}
 use mathlib.Core.Path.{◌≡◌, refl, sym, ap, subst, ◌∙◌}
@@ -11,10 +12,9 @@ use Rattle.numbers.specs.Bytes as bytes
 use Rattle.numbers.specs.Bytes.{Left, store}
 use Rattle.numbers.specs.Leb.{unsigned}
 use Rattle.numbers.specs.Numbers.{value_of}
-use Rattle.numbers.specs.declared.bytes.Stored.{Stored}
+use Rattle.numbers.specs.Stored.{Stored}
 use Rattle.numbers.proofs.BytesLaws.{store-either, size-value, room-value}
 use Rattle.numbers.proofs.LebLaws.{size_bounds}
-use Rattle.fields.specs.declared.Answer.TheVariants.{Size}
 use Rattle.fields.specs.declared.Refusal.TheVariants as refusal
 use Rattle.fields.specs.Answers.{left, refuse}
 use Rattle.writing.specs.Write.{stored}
@@ -59,11 +59,11 @@ module _ (family count : ℕ) (body out : List ℕ) {n : ℕ} (counted : n ≡ l
 
   module _ (small : length body ≤ 4294967295 - n) {m : ℕ} (sized : m ≡ length (unsigned (n + length body))) where
     as_stored : framing family count body out
-        ≡ stored (Size (1 + m + (n + length body))) (framed family (n + length body) count body) out 0
+        ≡ stored (Ok (1 + m + (n + length body))) (framed family (n + length body) count body) out 0
     unfolding framing
     as_stored =
         rw (← counted, le-ltb 4294967295 (n + length body) (omega (arith, number_size count)))
-        (ap (λ k. stored (Size k) (framed family (n + length body) count body) out 0)
+        (ap (λ k. stored (Ok k) (framed family (n + length body) count body) out 0)
         (omega (arith, frame_size family (n + length body) count body)))
 
     pub frame_no_room : length out < 1 + m + (n + length body)
@@ -72,6 +72,6 @@ module _ (family count : ℕ) (body out : List ℕ) {n : ℕ} (counted : n ≡ l
     frame_no_room h = as_stored ∙ rw (lt-leb (0 + (1 + m + (n + length body))) (length out) (omega arith))
 
     pub frame_fits : 1 + m + (n + length body) ≤ length out
-        → framing family count body out ≡ left (Size (1 + m + (n + length body))) (sets out 0 (framed family (n + length body) count body))
+        → framing family count body out ≡ left (Ok (1 + m + (n + length body))) (sets out 0 (framed family (n + length body) count body))
     unfolding stored
     frame_fits h = as_stored ∙ rw (le-leb (0 + (1 + m + (n + length body))) (length out) (omega arith))

@@ -1,4 +1,6 @@
 -- What a sound state shows, and what a step comes to from the answer and the buffer that a writer leaves. Assumes nothing.
+use Rattle.std.specs.Prelude.{Ok}
+use Rattle.std.specs.Prelude.{Err}
 use Prim.Native.Nat.{ℕ, ◌+◌, ◌^◌, ◌≤◌, ◌<◌}
 use native.Mathlib.Omega.{arith}
 use mathlib.Core.Path.{◌≡◌, refl, sym, ap, subst, ◌∙◌}
@@ -8,8 +10,7 @@ use borrow.Author.Tests.{ltb-true, ltb-false, leb-true, eqb-true}
 use lib.Dec.{eqb, ltb, leb}
 use lib.ListN.{length}
 use lib.Seq.{sets}
-use Rattle.fields.specs.declared.Answer.{Answer}
-use Rattle.fields.specs.declared.Answer.TheVariants.{Size, Refused}
+use Rattle.fields.specs.Answer.{Answer}
 use Rattle.fields.specs.declared.Refusal.TheVariants as refusal
 use Rattle.fields.specs.declared.Shape.{Shape}
 use Rattle.fields.specs.Answers.{Left, left}
@@ -99,11 +100,11 @@ family-small s n e = go s.phase (phase_holds s n e)
 -- what was stored behind the used part lies in the buffer, so the grown part still has a length
 stored-fits : (s : Section) (a : Answer) (bs out : List ℕ) → length out < 2 ^ 64 → Bounded s (stored a bs out s.used).answer
 unfolding stored
-stored-fits s (Refused w n) bs out h = tt
-stored-fits s (Size m) bs out h = go (leb (s.used + m) (length out)) refl
+stored-fits s (Err fault) bs out h = tt
+stored-fits s (Ok m) bs out h = go (leb (s.used + m) (length out)) refl
   where
     go : (b : Bool) → leb (s.used + m) (length out) ≡ b
-        → Bounded s (cond b (left (Size m) (sets out s.used bs)) (answers.refuse refusal.Room m out)).answer
+        → Bounded s (cond b (left (Ok m) (sets out s.used bs)) (answers.refuse refusal.Room m out)).answer
     go true e = omega (arith, leb-true (s.used + m) (length out) e)
     go false e = tt
 

@@ -1,3 +1,4 @@
+use Rattle.std.specs.Prelude.{Ok}
 use Rattle.sections.specs.Section.{family_bytes, measured_family}
 -- A function that is put together in steps is the row: where each step and the row are accepted, they leave the same section and the
 -- same body. At 4,095 parameters only the steps can be accepted: the head's words are 16,382, and the row's 16,385, which is LIMIT.
@@ -8,7 +9,6 @@ use mathlib.Core.List.{List, [], ◌∷◌, ◌++◌, append-nil}
 use lib.ListN.{length, drop}
 use lib.Seq.{drop-append_seam}
 use Rattle.numbers.specs.Leb.{unsigned}
-use Rattle.fields.specs.declared.Answer.TheVariants.{Size}
 use Rattle.fields.specs.declared.Field.TheVariants as field
 use Rattle.fields.specs.Words.{word, wide}
 use Rattle.writing.specs.Binary.{bytes, functype, resultlist}
@@ -118,7 +118,7 @@ module _ (s : Section) (words pool : List ℕ) (tag x : ℕ) (body : List ℕ) w
   row_grows f w k =
       let row = function_row words tag x in
       let turns = row_turns s body row pool in
-      let measures : measured_type row pool ≡ Size (length (family_bytes s.family pool row)) =
+      let measures : measured_type row pool ≡ Ok (length (family_bytes s.family pool row)) =
       ap (λ n. measured_family n row pool) (sym f) ∙ accepted_size turns k in
       let same : family_bytes s.family pool row ≡ function_bytes words pool tag x =
       ap (λ n. family_bytes n pool row) f ∙ (type_row row pool _ measures).as_production ∙ row_production pool words tag x w in

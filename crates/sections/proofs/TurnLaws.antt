@@ -1,4 +1,6 @@
 -- What a turn leaves: a refusal changes nothing, and an accepted turn stores its bytes behind the used part and grows the state by them.
+use Rattle.std.specs.Prelude.{Ok}
+use Rattle.std.specs.Prelude.{Err}
 use Prim.Native.Nat.{ℕ, ◌+◌, ◌≤◌}
 use native.Mathlib.Omega.{arith}
 use mathlib.Core.Path.{◌≡◌, refl, sym, ap, ◌∙◌, subst}
@@ -9,8 +11,8 @@ use lib.Dec.{eqb, ltb, leb}
 use lib.ListN.{length, length-append}
 use lib.Seq.{sets, length-sets}
 use Rattle.numbers.proofs.BytesLaws.{sets_append}
-use Rattle.fields.specs.declared.Answer.{Answer}
-use Rattle.fields.specs.declared.Answer.TheVariants.{Size, Refused}
+use Rattle.fields.specs.Answer.{Answer}
+use Rattle.fields.specs.Answer.{Refused}
 use Rattle.fields.specs.declared.Refusal.{Refusal}
 use Rattle.fields.specs.declared.Refusal.TheVariants as refusal
 use Rattle.fields.specs.declared.Shape.{Shape}
@@ -32,8 +34,8 @@ use Rattle.sections.proofs.FamilyLaws.{family-stored, family-size}
 -- a turn refuses and changes nothing, or stores bytes behind the used part; r is the size that was found for them
 pub data Turns (s : Section) (body : List ℕ) (r : Answer) (bs : List ℕ) (count : ℕ) (phase : Phase) : Turn → Type 0 where
   refuses : (w : Refusal) (n : ℕ) → Turns s body r bs count phase (turned (refused s w n) body)
-  stores : r ≡ Size (length bs) → s.used + length bs ≤ length body
-      → Turns s body r bs count phase (turned (taken s (Size (length bs)) count phase) (sets body s.used bs))
+  stores : r ≡ Ok (length bs) → s.used + length bs ≤ length body
+      → Turns s body r bs count phase (turned (taken s (Ok (length bs)) count phase) (sets body s.used bs))
 
 -- the section t over `new` is the section s over `body` with bytes behind the used part, and with that count and phase
 pub record Grows (s : Section) (body bs : List ℕ) (count : ℕ) (phase : Phase) (t : Section) (new : List ℕ) : Type 0 where
@@ -45,7 +47,7 @@ pub record Grows (s : Section) (body bs : List ℕ) (count : ℕ) (phase : Phase
   pub content : new ≡ sets body s.used bs
 
 module _ {s : Section} {body : List ℕ} {r : Answer} {bs : List ℕ} {count : ℕ} {phase : Phase} where
-  pub accepted_size : {t : Turn} → Turns s body r bs count phase t → Accepted t → r ≡ Size (length bs)
+  pub accepted_size : {t : Turn} → Turns s body r bs count phase t → Accepted t → r ≡ Ok (length bs)
   accepted_size (refuses w n) a = absurd a
   accepted_size (stores e h) a = e
 
@@ -93,20 +95,20 @@ module _ {s : Section} {body : List ℕ} {r : Answer} {bs : List ℕ} {count : �
       go true e = refuses refusal.Limit 0
       go false e = when (holds s.phase s) refusal.Limit (k (ltb-false _ _ e))
 
-wrote-turns : (s : Section) (body : List ℕ) (r : Answer) (bs : List ℕ) (count : ℕ) (phase : Phase) → ((size : ℕ) → r ≡ Size size → size ≡ length bs)
+wrote-turns : (s : Section) (body : List ℕ) (r : Answer) (bs : List ℕ) (count : ℕ) (phase : Phase) → ((size : ℕ) → r ≡ Ok size → size ≡ length bs)
     → Turns s body r bs count phase (wrote s count phase (stored r bs body s.used))
 unfolding stored
-wrote-turns s body (Size m) bs count phase same = go (leb (s.used + m) (length body)) refl
+wrote-turns s body (Ok m) bs count phase same = go (leb (s.used + m) (length body)) refl
   where
     go : (b : Bool) → leb (s.used + m) (length body) ≡ b
-        → Turns s body (Size m) bs count phase (wrote s count phase (cond b (left (Size m) (sets body s.used bs)) (left (Refused refusal.Room m) body)))
+        → Turns s body (Ok m) bs count phase (wrote s count phase (cond b (left (Ok m) (sets body s.used bs)) (left (Refused refusal.Room m) body)))
     go true e =
         let n : length bs ≡ m = sym (same m refl) in
         let h : s.used + m ≤ length body = leb-true _ _ e in
-        subst (λ k. Turns s body (Size m) bs count phase (turned (taken s (Size k) count phase) (sets body s.used bs))) n
-        (stores (ap Size (sym n)) (omega arith))
+        subst (λ k. Turns s body (Ok m) bs count phase (turned (taken s (Ok k) count phase) (sets body s.used bs))) n
+        (stores (ap Ok (sym n)) (omega arith))
     go false e = refuses refusal.Room m
-wrote-turns s body (Refused w n) bs count phase same = refuses w n
+wrote-turns s body (Err fault) bs count phase same = refuses fault.why fault.value
 
 -- the words of a shape
 pub shape_turns : (s : Section) (body : List ℕ) (count : ℕ) (phase : Phase) (shape : Shape) (words pool : List ℕ)
@@ -131,7 +133,7 @@ module _ (s : Section) (body : List ℕ) where
       (wrote-turns s body (measured_family s.family row pool) (family_bytes s.family pool row) (s.count + 1) Closed
       (family-size s.family row pool)))))))
 
-  pub open_turns : Turns s body (Size 0) [] (s.count + 1) (Opened s.used) (opening s body)
+  pub open_turns : Turns s body (Ok 0) [] (s.count + 1) (Opened s.used) (opening s body)
   unfolding opening
   open_turns =
       when_sound
@@ -149,7 +151,7 @@ module _ (s : Section) (body : List ℕ) where
           → Accepted (cond b
           (cond c (refuse s refusal.Order body)
           (cond d (refuse s refusal.Count body)
-          (cond e (turned (taken s (Size 0) (s.count + 1) (Opened s.used)) body) (refuse s refusal.Kind body))))
+          (cond e (turned (taken s (Ok 0) (s.count + 1) (Opened s.used)) body) (refuse s refusal.Kind body))))
           (refuse s refusal.Limit body))
           → s.family ≡ 7
       go true false false true p a = eqb-true _ _ p

@@ -1,7 +1,7 @@
 -- The finished section: N:byte size:u32 cont, where cont is the count and the body (core 5.5.2).
+use Rattle.std.specs.Prelude.{Ok}
 use Rattle.std.specs.Prelude.{ℕ, ◌+◌, cond, List, ◌∷◌, ◌++◌, ltb, length, take}
 use Rattle.numbers.specs.Leb.{unsigned}
-use Rattle.fields.specs.declared.Answer.TheVariants.{Size}
 use Rattle.fields.specs.declared.Refusal.TheVariants as refusal
 use Rattle.fields.specs.Answers.{Left, refuse}
 use Rattle.writing.specs.Write.{stored}
@@ -16,7 +16,7 @@ framed family size count body = family ∷ (unsigned size ++ (unsigned count ++ 
 unfoldable pub framing : ℕ → ℕ → List ℕ → List ℕ → Left
 framing family count body out =
     cond (ltb 4294967295 (length (unsigned count) + length body)) (refuse refusal.TooBig 0 out)
-    (stored (Size (length (framed family (length (unsigned count) + length body) count body)))
+    (stored (Ok (length (framed family (length (unsigned count) + length body) count body)))
     (framed family (length (unsigned count) + length body) count body) out 0)
 
 unfoldable pub finishing : Section → List ℕ → List ℕ → Left

@@ -1,7 +1,8 @@
 -- Steps one after the other from a section over its body on: what they come to, and whether each of them is accepted.
+use Rattle.std.specs.Prelude.{Ok}
+use Rattle.std.specs.Prelude.{Err}
 use Rattle.std.specs.Prelude.{ℕ, ◌+◌, ◌≤◌, ◌<◌, List, [], ◌∷◌, ◌++◌, ◌⊎◌, ◌≡◌, length, get_or, take}
-use Rattle.fields.specs.declared.Answer.{Answer}
-use Rattle.fields.specs.declared.Answer.TheVariants.{Size, Refused}
+use Rattle.fields.specs.Answer.{Answer}
 use Rattle.sections.specs.declared.Section.{Section}
 use Rattle.sections.specs.Steps.{Turn, rowing, opening, heading, resulting, abandoning}
 use Rattle.std.proofs.lemmas.List.Edits.{sets}
@@ -37,8 +38,8 @@ runs (x ∷ xs) s body = runs xs (turn x s body).gave.section (turn x s body).bo
 
 -- a turn is accepted where its answer is a size
 abbrev pub IsSize : Answer → Type 0
-IsSize (Size n) = Unit {0}
-IsSize (Refused w n) = ⊥
+IsSize (Ok n) = Unit {0}
+IsSize (Err fault) = ⊥
 
 abbrev pub Accepted : Turn → Type 0
 Accepted t = IsSize t.gave.answer
@@ -59,8 +60,8 @@ rows (e ∷ es) = Row e.row e.pool ∷ rows es
 
 -- where n bytes are counted, the body is as it was before the used part and from n bytes behind it on; where none, all is as it was
 abbrev pub KeptBy : Section → List ℕ → Answer → Section → List ℕ → Type 0
-KeptBy s body (Size n) t new = (i : ℕ) → (i < s.used) ⊎ (s.used + n ≤ i) → get_or new i 0 ≡ get_or body i 0
-KeptBy s body (Refused w n) t new = (t ≡ s) × (new ≡ body)
+KeptBy s body (Ok n) t new = (i : ℕ) → (i < s.used) ⊎ (s.used + n ≤ i) → get_or new i 0 ≡ get_or body i 0
+KeptBy s body (Err fault) t new = (t ≡ s) × (new ≡ body)
 
 abbrev pub Kept : Section → List ℕ → Turn → Type 0
 Kept s body t = KeptBy s body t.gave.answer t.gave.section t.body

@@ -1,7 +1,9 @@
 -- What each step answers, and the state and the body it leaves: LIMIT, ORDER, COUNT, KIND, then what the fields say.
+use Rattle.std.specs.Prelude.{Ok}
+use Rattle.std.specs.Prelude.{Err}
 use Rattle.std.specs.Prelude.{ℕ, ◌+◌, ◌-◌, cond, List, [], ◌∷◌, eqb, ltb, length}
-use Rattle.fields.specs.declared.Answer.{Answer}
-use Rattle.fields.specs.declared.Answer.TheVariants.{Size, Refused}
+use Rattle.fields.specs.Answer.{Answer}
+use Rattle.fields.specs.Answer.{Refused}
 use Rattle.fields.specs.declared.Refusal.{Refusal}
 use Rattle.fields.specs.declared.Refusal.TheVariants as refusal
 use Rattle.fields.specs.Answers.{Left}
@@ -34,9 +36,9 @@ refuse s w b = turned (refused s w 0) b
 
 -- the state after an answer: grown by the bytes that were added, with that count and phase; or as it was
 abbrev pub taken : Section → Answer → ℕ → Phase → Turned
-taken s (Size n) count phase =
-    gives (record { family = s.family; used = s.used + n; count = count; phase = phase }) (Size n)
-taken s (Refused w n) count phase = refused s w n
+taken s (Ok n) count phase =
+    gives (record { family = s.family; used = s.used + n; count = count; phase = phase }) (Ok n)
+taken s (Err fault) count phase = refused s fault.why fault.value
 
 -- the answer and the buffer that a writer leaves, as a step
 abbrev pub wrote : Section → ℕ → Phase → Left → Turn
@@ -59,7 +61,7 @@ opening s body =
     cond (sounds s (length body))
     (cond (opened s.phase) (refuse s refusal.Order body)
     (cond (eqb s.count 4294967295) (refuse s refusal.Count body)
-    (cond (eqb s.family 7) (turned (taken s (Size 0) (s.count + 1) (Opened s.used)) body) (refuse s refusal.Kind body))))
+    (cond (eqb s.family 7) (turned (taken s (Ok 0) (s.count + 1) (Opened s.used)) body) (refuse s refusal.Kind body))))
     (refuse s refusal.Limit body)
 
 -- head: a, n and n of (N,V), as in a function's row
@@ -86,7 +88,7 @@ resulting s tag x body = cond (sounds s (length body)) (result_in s.phase s tag 
 
 -- abandon: used and count from before the opening
 abbrev pub withdrawn : Section → ℕ → Turned
-withdrawn s start = gives (record { family = s.family; used = start; count = s.count - 1; phase = Closed }) (Size 0)
+withdrawn s start = gives (record { family = s.family; used = start; count = s.count - 1; phase = Closed }) (Ok 0)
 
 abbrev pub abandon_in : Phase → Section → List ℕ → Turn
 abandon_in Closed s body = refuse s refusal.Order body

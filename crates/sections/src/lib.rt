@@ -10,10 +10,10 @@ ghost use Rattle.sections.specs.Steps.{turned, refused, withdrawn, taken, rowing
 ghost use Rattle.sections.specs.inside.Bounded.{Bounded};
 ghost use Rattle.sections.specs.Finish.{framed, framing, finishing};
 
-use fields::{Answer, POOL_BYTES, ROW_WORDS, Refusal};
+use fields::{Answer, Fault, POOL_BYTES, ROW_WORDS, Refusal};
 
 // Where an open function stands; the number is the place in the body where it starts.
-#[derive(Clone, Copy)]
+#[derive(Clone, Copy, PartialEq, Eq)]
 pub enum Phase {
     // No function is open.
     Closed,
@@ -23,9 +23,9 @@ pub enum Phase {
     Headed(usize),
 }
 
-#[derive(Clone, Copy)]
+#[derive(Clone, Copy, PartialEq, Eq)]
 pub struct Section {
-    // 2 core instances, 5 instances, 7 types, 8 canonicals, 10 imports.
+    // 2 core instances, 5 instances, 7 types, 8 canonicals, 10 imports: a number, since C hands over every number, and others are refused.
     pub family: u32,
     // How many bytes of the body are written.
     pub used: usize,
@@ -42,17 +42,11 @@ pub struct Turned {
 }
 
 // Whether a family is a section's.
+#[tactic(auto, unfolding(crate::specs::Section::known_family))]
 fn is_known(family: u32) -> bool
     ensures { result ≡ known_family family }
 {
-    match family {
-        7 => true,
-        8 => true,
-        10 => true,
-        2 => true,
-        5 => true,
-        _ => false,
-    }
+    matches!(family, 2 | 5 | 7 | 8 | 10)
 }
 
 // The row written by the writer of its family; LIMIT where the family is no section's.
@@ -65,7 +59,10 @@ pub fn write_by(family: u32, row: &[u32], pool: &[u8], body: &mut [u8], at: usiz
         10 => imports::write(&row[0..], &pool[0..], body, at),
         2 => instances::write_core(&row[0..], &pool[0..], body, at),
         5 => instances::write(&row[0..], &pool[0..], body, at),
-        _ => Answer::Refused(Refusal::Limit, 0),
+        _ => Err(Fault {
+            why: Refusal::Limit,
+            value: 0,
+        }),
     }
 }
 
@@ -132,7 +129,7 @@ impl Section {
     {
         Turned {
             section: self,
-            answer: Answer::Refused(why, value),
+            answer: Err(Fault { why, value }),
         }
     }
 
@@ -144,7 +141,7 @@ impl Section {
         let family = self.family;
         let used = self.used;
         match answer {
-            Answer::Size(n) => {
+            Ok(n) => {
                 let grown = used + n;
                 Turned {
                     section: Section {
@@ -153,10 +150,10 @@ impl Section {
                         count: count,
                         phase: phase,
                     },
-                    answer: Answer::Size(n),
+                    answer: Ok(n),
                 }
             }
-            Answer::Refused(why, value) => self.refuse(why, value),
+            Err(Fault { why, value }) => self.refuse(why, value),
         }
     }
 
@@ -205,7 +202,7 @@ impl Section {
             return self.refuse(Refusal::Count, 0);
         }
         if family == 7 {
-            return self.after(Answer::Size(0), count + 1, Phase::Opened(used));
+            return self.after(Ok(0), count + 1, Phase::Opened(used));
         }
         self.refuse(Refusal::Kind, 0)
     }
@@ -285,7 +282,7 @@ impl Section {
                 count: count - 1,
                 phase: Phase::Closed,
             },
-            answer: Answer::Size(0),
+            answer: Ok(0),
         }
     }
 
@@ -298,10 +295,16 @@ impl Section {
         let count = self.count;
         let phase = self.phase;
         if !self.sound(body.len()) {
-            return Answer::Refused(Refusal::Limit, 0);
+            return Err(Fault {
+                why: Refusal::Limit,
+                value: 0,
+            });
         }
         if phase.is_open() {
-            return Answer::Refused(Refusal::Order, 0);
+            return Err(Fault {
+                why: Refusal::Order,
+                value: 0,
+            });
         }
         frame(family, count, &body[..used], out)
     }
@@ -315,7 +318,7 @@ fn put_frame(family: u8, size: u32, count: u32, body: &[u8], out: &mut [u8])
     out[0] = family;
     let counted = 1 + numbers::stored_size(numbers::put_unsigned(size, 1, out));
     let start = counted + numbers::stored_size(numbers::put_unsigned(count, counted, out));
-    numbers::copy(body, start, out);
+    let _ = numbers::copy(body, start, out);
 }
 
 // The section of a family, a count and a body, at the front of out.
@@ -325,13 +328,19 @@ fn frame(family: u32, count: u32, body: &[u8], out: &mut [u8]) -> Answer
 {
     let counted = numbers::unsigned_size(count);
     if 4294967295 - counted < body.len() {
-        return Answer::Refused(Refusal::TooBig, 0);
+        return Err(Fault {
+            why: Refusal::TooBig,
+            value: 0,
+        });
     }
     let size = counted + body.len();
     let all = 1 + numbers::unsigned_size(size as u32) + size;
     if out.len() < all {
-        return Answer::Refused(Refusal::Room, all);
+        return Err(Fault {
+            why: Refusal::Room,
+            value: all,
+        });
     }
     put_frame(family as u8, size as u32, count, body, out);
-    Answer::Size(all)
+    Ok(all)
 }

@@ -1,4 +1,6 @@
 -- A row that its family takes: its size is the length of its bytes, and at most 32772 bytes for each of its words; and it is written.
+use Rattle.std.specs.Prelude.{Ok}
+use Rattle.std.specs.Prelude.{Some}
 use Prim.Native.Nat.{ℕ, suc, ◌+◌, ◌*◌, ◌≤◌}
 use native.Mathlib.Nat.{mul-le-mul_left}
 use native.Mathlib.Omega.{arith}
@@ -9,9 +11,7 @@ use borrow.Author.Tests.{leb-true, le-leb}
 use lib.Dec.{eqb, leb}
 use lib.ListN.{length, drop, length-append}
 use lib.Seq.{sets}
-use Rattle.fields.specs.declared.Answer.TheVariants.{Size}
-use Rattle.fields.specs.declared.Found.TheVariants.{Is}
-use Rattle.fields.specs.declared.Leaf.TheVariants.{Fine}
+use Rattle.fields.specs.Leaf.{Fine}
 use Rattle.fields.specs.declared.Shape.{Shape}
 use Rattle.fields.specs.Words.{word, wide}
 use Rattle.writing.specs.Judge.{judge}
@@ -81,29 +81,29 @@ module _ {s : Shape} {row pool : List ℕ} {size : ℕ} (k : Sized s row 1 pool 
 
 -- ---- rows of each family
 
-table_bound : (ls : List Line) → every worded ls ≡ true → (row pool : List ℕ) (size : ℕ) → measured_row (shape_in ls (word row 0)) row pool ≡ Size size
+table_bound : (ls : List Line) → every worded ls ≡ true → (row pool : List ℕ) (size : ℕ) → measured_row (shape_in ls (word row 0)) row pool ≡ Ok size
     → size ≤ 32772 * length row
 table_bound ls w row pool size e =
     let a = accepted (shape_in ls (word row 0)) row pool size e in
     bounded a.sized (of_every worded ls w (word row 0) a.shape a.is)
 
-canonical_bound : (row pool : List ℕ) (size : ℕ) → measured_canonical row pool ≡ Size size → size ≤ 32772 * length row
+canonical_bound : (row pool : List ℕ) (size : ℕ) → measured_canonical row pool ≡ Ok size → size ≤ 32772 * length row
 unfolding measured_canonical every widths wide
 canonical_bound row pool size e = go (eqb (word row 0) 256) e
   where
-    go : (b : Bool) → measured_row (cond b (Is lift_shape) (shape_in canonicals.table (word row 0))) row pool ≡ Size size → size ≤ 32772 * length row
+    go : (b : Bool) → measured_row (cond b (Some lift_shape) (shape_in canonicals.table (word row 0))) row pool ≡ Ok size → size ≤ 32772 * length row
     go true e =
-        let a = accepted (Is lift_shape) row pool size e in
+        let a = accepted (Some lift_shape) row pool size e in
         let same : lift_shape ≡ a.shape = cc in
         bounded (rw (← same) at a.sized) refl
     go false e = table_bound canonicals.table refl row pool size e
 
-pub family-row : (family : ℕ) (row pool : List ℕ) (size : ℕ) → measured_family family row pool ≡ Size size → Taken row (family_bytes family pool row) size
+pub family-row : (family : ℕ) (row pool : List ℕ) (size : ℕ) → measured_family family row pool ≡ Ok size → Taken row (family_bytes family pool row) size
 unfolding measured_family measured_type measured_import measured_core_instance measured_instance every widths wide
 family-row family row pool size e =
     record { long = family-size family row pool size e; bound = go (entries_of family) e }
   where
-    go : (x : Entries) → measured_by x row pool ≡ Size size → size ≤ 32772 * length row
+    go : (x : Entries) → measured_by x row pool ≡ Ok size → size ≤ 32772 * length row
     go Types e = table_bound types.table refl row pool size e
     go Canonicals e = canonical_bound row pool size e
     go Imports e = table_bound imports.table refl row pool size e
@@ -114,8 +114,8 @@ family-row family row pool size e =
 -- ---- writing
 
 -- a row that its family takes is written where there is room for it
-pub family-written : (family : ℕ) (row pool body : List ℕ) (at size : ℕ) → measured_family family row pool ≡ Size size → at + size ≤ length body
-    → write_family family row pool body at ≡ left (Size size) (sets body at (family_bytes family pool row))
+pub family-written : (family : ℕ) (row pool body : List ℕ) (at size : ℕ) → measured_family family row pool ≡ Ok size → at + size ≤ length body
+    → write_family family row pool body at ≡ left (Ok size) (sets body at (family_bytes family pool row))
 unfolding stored
 family-written family row pool body at size e h =
     family-stored family row pool body at ∙ ap (λ a. stored a (family_bytes family pool row) body at) e ∙ simp (le-leb _ _ h)

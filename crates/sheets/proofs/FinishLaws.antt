@@ -1,4 +1,5 @@
 -- What the rows of a sheet, laid out as words, come to for each way out: refused, without room for the section, and finished; and so the sheet.
+use Rattle.std.specs.Prelude.{Ok}
 use Prim.Native.Nat.{ℕ, ◌+◌, ◌-◌, ◌/◌, ◌≤◌, ◌<◌}
 use native.Mathlib.Omega.{arith}
 use mathlib.Core.Path.{◌≡◌, refl, sym, ap, ◌∙◌}
@@ -11,15 +12,15 @@ use lib.Seq.{sets, length-sets}
 use Rattle.numbers.specs.Bytes as numbers
 use Rattle.numbers.specs.Bytes.{store}
 use Rattle.numbers.specs.Leb.{unsigned}
-use Rattle.numbers.specs.declared.bytes.Stored.{Stored}
+use Rattle.numbers.specs.Stored.{Stored}
 use Rattle.numbers.proofs.BytesLaws.{sets_back, store-fits}
 use Rattle.numbers.proofs.LebLaws.{size_bounds}
-use Rattle.fields.specs.declared.Answer.{Answer}
-use Rattle.fields.specs.declared.Answer.TheVariants.{Size, Refused}
+use Rattle.fields.specs.Answer.{Answer}
+use Rattle.fields.specs.Answer.{Refused}
 use Rattle.fields.specs.declared.Refusal.{Refusal}
 use Rattle.fields.specs.declared.Refusal.TheVariants as refusal
-use Rattle.fields.specs.declared.Leaf.{Leaf}
-use Rattle.fields.specs.declared.Leaf.TheVariants.{Fine, Bad}
+use Rattle.fields.specs.Leaf.{Leaf}
+use Rattle.fields.specs.Leaf.{Fine, Bad}
 use Rattle.fields.specs.Words.{word}
 use Rattle.fields.specs.Answers as leaves
 use Rattle.sections.specs.Section.{entries_of, known, known_family, sounds}
@@ -138,7 +139,7 @@ module _ {family : ℕ} {ws : List ℕ} (sheet : SheetWords family ws) (pool bod
     -- the state of the rows that are written is finished as their section
     module _ (h : section_size r used ≤ length out) {new : List ℕ} (en : new ≡ sets body 0 string) where
       finishes : finishing (closed family used r) new out
-          ≡ leaves.left (Size (length (section family r string))) (sets out 0 (section family r string))
+          ≡ leaves.left (Ok (length (section family r string))) (sets out 0 (section family r string))
       unfolding finishing sounds
       finishes =
           let inside : used ≤ length new = omega (arith, all.fits, ap length en ∙ length-sets body 0 string) in
@@ -147,7 +148,7 @@ module _ {family : ℕ} {ws : List ℕ} (sheet : SheetWords family ws) (pool bod
           simp (le-ltb _ _ inside, sheet.known)
           (ap (λ l. framing family r l out) back
           ∙ frame_fits family r string out refl (omega (arith, long, few.1, size_bounds 128 r)) refl (omega (arith, sized, frame_size family (m + length string) r string))
-          ∙ ap (λ k. leaves.left (Size k) (sets out 0 (section family r string))) (sym (frame_size family (m + length string) r string)))
+          ∙ ap (λ k. leaves.left (Ok k) (sets out 0 (section family r string))) (sym (frame_size family (m + length string) r string)))
 
       pub words_finished : {last : List ℕ} {a : Answer}
           → leaves.left a last ≡ finishing (closed family used r) new out

@@ -1,4 +1,6 @@
 -- Rows made one at a time in a buffer: what the writer's answer says of the row, and where all rows stand then.
+use Rattle.std.specs.Prelude.{Ok}
+use Rattle.std.specs.Prelude.{Err}
 use Prim.Native.Nat.{ℕ, ◌+◌, ◌≤◌, ◌<◌}
 use native.Mathlib.Omega.{arith}
 use mathlib.Core.Path.{◌≡◌, refl, sym, ap, ◌∙◌}
@@ -8,15 +10,16 @@ use borrow.Author.Tests.{leb-true}
 use lib.Dec.{leb}
 use lib.ListN.{length}
 use lib.Seq.{sets}
-use Rattle.fields.specs.declared.Answer.{Answer}
-use Rattle.fields.specs.declared.Answer.TheVariants.{Size, Refused}
+use Rattle.fields.specs.Answer.{Answer}
+use Rattle.fields.specs.Answer.{Refused}
 use Rattle.fields.specs.declared.Refusal.{Refusal}
 use Rattle.fields.specs.declared.Refusal.TheVariants as refusal
-use Rattle.fields.specs.declared.Leaf.{Leaf}
-use Rattle.fields.specs.declared.Leaf.TheVariants.{Bad}
+use Rattle.fields.specs.Leaf.{Leaf}
+use Rattle.fields.specs.Leaf.{Bad}
 use Rattle.fields.specs.Answers as leaves
 use Rattle.writing.specs.Write.{stored}
 use Rattle.fields.specs.Answers.{number_of_refusal}
+use Rattle.fields.proofs.OutcomeLaws.{refused-same}
 use Rattle.writing.proofs.WroteLaws.{same_size}
 use Rattle.sections.specs.Section.{write_family, measured_family, family_bytes}
 use Rattle.sections.proofs.FamilyLaws.{family-stored}
@@ -29,43 +32,42 @@ use Rattle.numbers.proofs.Impossible.{impossible}
 -- why a row is not written: it is refused, or there is no room for it
 data Barred (x : Answer) (w : Refusal) (v : ℕ) : Type 0 where
   Own : x ≡ Refused w v → Barred x w v
-  Cramped : w ≡ refusal.Room → x ≡ Size v → Barred x w v
+  Cramped : w ≡ refusal.Room → x ≡ Ok v → Barred x w v
 
 -- what the writer's answer says of the row
 module _ (bs body : List ℕ) (used : ℕ) where
-  size_told : (x : Answer) {m : ℕ} {new : List ℕ} → leaves.left (Size m) new ≡ stored x bs body used → (x ≡ Size m) × (used + m ≤ length body)
+  size_told : (x : Answer) {m : ℕ} {new : List ℕ} → leaves.left (Ok m) new ≡ stored x bs body used → (x ≡ Ok m) × (used + m ≤ length body)
   unfolding stored
-  size_told (Refused w n) {m} e =
-      let other : Size m ≡ Refused w n = ap (λ l. l.answer) e in
+  size_told (Err fault) {m} e =
+      let other : Ok m ≡ Refused fault.why fault.value = ap (λ l. l.answer) e in
       impossible cc
-  size_told (Size n) {m} {new} e = go (leb (used + n) (length body)) refl e
+  size_told (Ok n) {m} {new} e = go (leb (used + n) (length body)) refl e
     where
       go : (b : Bool) → leb (used + n) (length body) ≡ b
-          → leaves.left (Size m) new ≡ cond b (leaves.left (Size n) (sets body used bs)) (leaves.refuse refusal.Room n body)
-          → (Size n ≡ Size m) × (used + m ≤ length body)
+          → leaves.left (Ok m) new ≡ cond b (leaves.left (Ok n) (sets body used bs)) (leaves.refuse refusal.Room n body)
+          → ◌≡◌ {A = Answer} (Ok n) (Ok m) × (used + m ≤ length body)
       go true q e =
-          let same : Size m ≡ Size n = ap (λ l. l.answer) e in
+          let same : Ok m ≡ Ok n = ap (λ l. l.answer) e in
           let p : m ≡ n = cc in
           (sym same, omega (arith, leb-true (used + n) (length body) q))
       go false q e =
-          let other : Size m ≡ Refused refusal.Room n = ap (λ l. l.answer) e in
+          let other : Ok m ≡ Refused refusal.Room n = ap (λ l. l.answer) e in
           impossible cc
 
   refusal_told : (x : Answer) {w : Refusal} {v : ℕ} {new : List ℕ} → leaves.left (Refused w v) new ≡ stored x bs body used → Barred x w v
   unfolding stored
-  refusal_told (Refused u n) e = Own (sym (ap (λ l. l.answer) e))
-  refusal_told (Size n) {w} {v} {new} e = go (leb (used + n) (length body)) e
+  refusal_told (Err fault) e = Own (sym (ap (λ l. l.answer) e))
+  refusal_told (Ok n) {w} {v} {new} e = go (leb (used + n) (length body)) e
     where
-      go : (b : Bool) → leaves.left (Refused w v) new ≡ cond b (leaves.left (Size n) (sets body used bs)) (leaves.refuse refusal.Room n body)
-          → Barred (Size n) w v
+      go : (b : Bool) → leaves.left (Refused w v) new ≡ cond b (leaves.left (Ok n) (sets body used bs)) (leaves.refuse refusal.Room n body)
+          → Barred (Ok n) w v
       go true e =
-          let other : Refused w v ≡ Size n = ap (λ l. l.answer) e in
+          let other : Refused w v ≡ Ok n = ap (λ l. l.answer) e in
           impossible cc
       go false e =
           let same : Refused w v ≡ Refused refusal.Room n = ap (λ l. l.answer) e in
-          let p : n ≡ v = cc in
-          let q : w ≡ refusal.Room = cc in
-          Cramped q (ap Size p)
+          let held = refused-same same in
+          Cramped held.0 (ap Ok (sym held.1))
 
 module _ (family : ℕ) (pool : List ℕ) (room : ℕ) (ws first : List ℕ) where
   abbrev all : Leaf
@@ -101,8 +103,8 @@ module _ (family : ℕ) (pool : List ℕ) (room : ℕ) (ws first : List ℕ) whe
       left_is : {b : Answer} → a ≡ b → leaves.left b new ≡ stored (measured_family family row pool) (family_bytes family pool row) made used
       left_is p = ap (λ x. leaves.left x new) (sym p) ∙ e ∙ family-stored family row pool made used
 
-      module _ {m : ℕ} (p : a ≡ Size m) where
-        told : (measured_family family row pool ≡ Size m) × (used + m ≤ length made)
+      module _ {m : ℕ} (p : a ≡ Ok m) where
+        told : (measured_family family row pool ≡ Ok m) × (used + m ≤ length made)
         told = size_told _ made used (measured_family family row pool) (left_is p)
 
         fitting : Fits family row pool (length made) used
@@ -143,3 +145,23 @@ module _ (family : ℕ) (pool : List ℕ) (room : ℕ) (ws first : List ℕ) whe
             go : Barred (measured_family family row pool) w v → Bad w r ≡ all
             go (Own q) = try_refused _ _ _ _ k.tries h refl q
             go (Cramped z q) = absurd (n (ap number_of_refusal z))
+
+-- the one refusal of number 8
+pub room_of : (w : Refusal) → number_of_refusal w ≡ 8 → w ≡ refusal.Room
+unfolding number_of_refusal
+room_of refusal.Limit e = impossible cc
+room_of refusal.Kind e = impossible cc
+room_of refusal.Row e = impossible cc
+room_of refusal.Tag e = impossible cc
+room_of refusal.Range e = impossible cc
+room_of (refusal.Text offset) e = impossible cc
+room_of refusal.TooBig e = impossible cc
+room_of refusal.Room e = refl
+room_of refusal.Order e = impossible cc
+room_of refusal.Count e = impossible cc
+room_of refusal.Cut e = impossible cc
+room_of refusal.Code e = impossible cc
+room_of refusal.Number e = impossible cc
+room_of refusal.Newer e = impossible cc
+room_of refusal.Sheet e = impossible cc
+room_of refusal.Frame e = impossible cc

@@ -1,4 +1,6 @@
 -- The laws of `specs/Sheet.antt`: rows tried one at a time, what is known of rows that were all taken, and their bytes one after the other.
+use Rattle.std.specs.Prelude.{Ok}
+use Rattle.std.specs.Prelude.{Err}
 use Prim.Native.Nat.{ℕ, ◌+◌, ◌*◌, ◌≤◌, ◌<◌}
 use native.Mathlib.Omega.{arith}
 use mathlib.Core.Path.{◌≡◌, refl, sym, ap, ◌∙◌, subst}
@@ -9,14 +11,15 @@ use lib.Dec.{leb}
 use lib.ListN.{length, length-append}
 use lib.Seq.{sets}
 use Rattle.numbers.proofs.BytesLaws.{sets_append}
-use Rattle.fields.specs.declared.Answer.{Answer}
-use Rattle.fields.specs.declared.Answer.TheVariants.{Size, Refused}
+use Rattle.fields.specs.Answer.{Answer}
+use Rattle.fields.specs.Answer.{Refused}
 use Rattle.fields.specs.declared.Refusal.{Refusal}
 use Rattle.fields.specs.declared.Refusal.TheVariants as refusal
-use Rattle.fields.specs.declared.Leaf.{Leaf}
-use Rattle.fields.specs.declared.Leaf.TheVariants.{Fine, Bad}
+use Rattle.fields.specs.Leaf.{Leaf}
+use Rattle.fields.specs.Leaf.{Fine, Bad}
 use Rattle.writing.specs.inside.Wrote.{Wrote}
 use Rattle.fields.specs.Answers as leaves
+use Rattle.fields.proofs.OutcomeLaws.{fine-same}
 use Rattle.writing.proofs.WroteLaws.{same_size}
 use Rattle.sections.specs.Section.{write_family, measured_family, family_bytes}
 use Rattle.sheets.specs.Sheet.{tried, tries, joined}
@@ -58,7 +61,7 @@ module _ (family : ℕ) (pool : List ℕ) (room : ℕ) (ws : List ℕ) where
       pub try_refused : {w : Refusal} {v : ℕ} → a ≡ Refused w v → Bad w r ≡ all (rows_in ws) 0 0
       try_refused e = sym (answers e)
 
-      module _ {size : ℕ} (e : a ≡ Size size) where
+      module _ {size : ℕ} (e : a ≡ Ok size) where
         pub try_cramped : room < used + size → Bad refusal.Room r ≡ all (rows_in ws) 0 0
         try_cramped k = sym (answers e ∙ simp (lt-leb _ _ k))
 
@@ -88,8 +91,8 @@ module _ (family : ℕ) (pool : List ℕ) (room : ℕ) where
   took row rows r used p = go (measured_family family row pool) refl p
     where
       go : (a : Answer) → measured_family family row pool ≡ a → Passed (tried a room used r (λ u. each rows (r + 1) u)) → Took row rows r used
-      go (Refused w n) e p = absurd p
-      go (Size m) e p = room_for (leb (used + m) room) refl p
+      go (Err fault) e p = absurd p
+      go (Ok m) e p = room_for (leb (used + m) room) refl p
         where
           room_for : (b : Bool) → leb (used + m) room ≡ b → Passed (cond b (each rows (r + 1) (used + m)) (Bad refusal.Room r)) → Took row rows r used
           room_for true q p =
@@ -109,8 +112,9 @@ module _ (family : ℕ) (pool : List ℕ) (room : ℕ) where
   pub tried_all : (rows : List (List ℕ)) (r used last end : ℕ) → used ≤ room → Fine last end ≡ each rows r used → Tried rows r used last end
   unfolding tries joined laid
   tried_all [] r used last end h e =
-      let p : last ≡ r = cc in
-      let q : end ≡ used = cc in
+      let held = fine-same e in
+      let p : last ≡ r = held.0 in
+      let q : end ≡ used = held.1 in
       record { count = omega arith; long = omega arith; fits = omega arith; bound = omega arith }
   tried_all (row ∷ rows) r used last end h e =
       let t = took row rows r used (subst Passed e tt) in
@@ -131,16 +135,16 @@ module _ (family : ℕ) (pool : List ℕ) (room : ℕ) where
 -- a row that is taken is written: what the writer left
 module _ (family : ℕ) (row pool body : List ℕ) (used : ℕ) (k : Fits family row pool (length body) used)
     {a : Answer} {new : List ℕ} (e : leaves.left a new ≡ write_family family row pool body used) where
-  wrote : leaves.left a new ≡ leaves.left (Size k.size) (sets body used (family_bytes family pool row))
+  wrote : leaves.left a new ≡ leaves.left (Ok k.size) (sets body used (family_bytes family pool row))
   wrote = e ∙ family-written family row pool body used k.size k.measures k.fits
 
-  answered : a ≡ Size k.size
+  answered : a ≡ Ok k.size
   answered = ap (λ l. l.answer) wrote
 
-  pub row_inside : {m : ℕ} → a ≡ Size m → used + m ≤ length body
+  pub row_inside : {m : ℕ} → a ≡ Ok m → used + m ≤ length body
   row_inside {m} p = let f = answered in let q : m ≡ k.size = cc in omega (arith, k.fits)
 
-  pub row_wrote : {m : ℕ} → a ≡ Size m → Wrote body used (family_bytes family pool row) (used + m) new
+  pub row_wrote : {m : ℕ} → a ≡ Ok m → Wrote body used (family_bytes family pool row) (used + m) new
   row_wrote {m} p =
       let f = answered in
       let q : m ≡ k.size = cc in

@@ -1,13 +1,14 @@
 -- A sheet: its framing whole, then all rows tried in order with body and output room, and then the bytes.
+use Rattle.std.specs.Prelude.{Err, Ok}
 use Rattle.std.specs.Prelude.{ℕ, ◌+◌, cond, List, [], ◌∷◌, ◌++◌, eqb, ltb, leb, length}
 use Rattle.std.proofs.lemmas.List.Edits.{sets}
 use Rattle.numbers.specs.Leb.{unsigned}
-use Rattle.fields.specs.declared.Answer.{Answer}
-use Rattle.fields.specs.declared.Answer.TheVariants.{Size, Refused}
+use Rattle.fields.specs.Answer.{Answer}
+use Rattle.fields.specs.Answer.{Refused}
 use Rattle.fields.specs.declared.Refusal.{Refusal}
 use Rattle.fields.specs.declared.Refusal.TheVariants as refusal
-use Rattle.fields.specs.declared.Leaf.{Leaf}
-use Rattle.fields.specs.declared.Leaf.TheVariants.{Fine, Bad}
+use Rattle.fields.specs.Leaf.{Leaf}
+use Rattle.fields.specs.Leaf.{Fine, Bad}
 use Rattle.fields.specs.Words.{word}
 use Rattle.sections.specs.Finish as finish
 use Rattle.sections.specs.Section.{measured_family, family_bytes}
@@ -35,8 +36,8 @@ family_of kind =
 
 -- a row's answer, with `used` of `room` bytes taken and r rows before it
 abbrev pub tried : Answer → ℕ → ℕ → ℕ → (ℕ → Leaf) → Leaf
-tried (Size m) room used r go = cond (leb (used + m) room) (go (used + m)) (Bad refusal.Room r)
-tried (Refused w n) room used r go = Bad w r
+tried (Ok m) room used r go = cond (leb (used + m) room) (go (used + m)) (Bad refusal.Room r)
+tried (Err fault) room used r go = Bad fault.why r
 
 -- all rows in order: how many there are and the bytes they take, or the first refusal and its row
 unfoldable pub tries : ℕ → List ℕ → ℕ → List (List ℕ) → ℕ → ℕ → Leaf
@@ -56,12 +57,12 @@ section family r bytes = finish.framed family (length (unsigned r) + length byte
 unfoldable pub finished : ℕ → ℕ → List ℕ → List ℕ → List ℕ → Left
 finished family r bytes body out =
     cond (leb (length (section family r bytes)) (length out))
-    (left (Size (length (section family r bytes))) (sets body 0 bytes) (sets out 0 (section family r bytes)))
+    (left (Ok (length (section family r bytes))) (sets body 0 bytes) (sets out 0 (section family r bytes)))
     (refuse refusal.Room r body out)
 
 abbrev pub written : Leaf → ℕ → List ℕ → List ℕ → List ℕ → Left
-written (Fine r used) family bytes body out = finished family r bytes body out
-written (Bad w r) family bytes body out = refuse w r body out
+written (Ok span) family bytes body out = finished family span.took bytes body out
+written (Err fault) family bytes body out = refuse fault.why fault.value body out
 
 abbrev pub of_rows : Rows → List ℕ → List ℕ → List ℕ → Left
 of_rows Broken pool body out = refuse refusal.Sheet 0 body out

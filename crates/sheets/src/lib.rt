@@ -12,16 +12,8 @@ ghost use Rattle.sheets.specs.Sheet.{left, family_of, tries, joined, of_rows, sh
 ghost use Rattle.sheets.specs.inside.Steps.{rest, whole, Framed, RowsAt, Starts, first_family, rows_in, InRows, Fits, Passed, Makes, SheetWords, words_left, section_size, closed};
 ghost use Rattle.fields.specs.Limits.{sheet_bytes};
 
-use fields::{Answer, Leaf, ROW_WORDS, Refusal, SHEET_BYTES};
+use fields::{Answer, Fault, ROW_WORDS, Refusal, SHEET_BYTES, Span};
 use sections::{Phase, Section};
-
-// Where a sheet's rows start.
-#[derive(Clone, Copy)]
-enum Framing {
-    At(usize),
-    // The version is wrong, there is no row, or a part runs past the end.
-    Broken,
-}
 
 // The number of four bytes at `at`, the highest first.
 fn number_at(input: &[u8], at: usize) -> u32
@@ -64,25 +56,26 @@ fn is_framed(input: &[u8], start: usize) -> bool
     true
 }
 
-// The frame checked whole, before any row is looked at.
-fn rows_of(input: &[u8]) -> Framing
+// The frame checked whole, before any row is looked at: where the rows start, if the version is right, there is a row, and no part
+// runs past the end.
+fn rows_of(input: &[u8]) -> Option<usize>
     ensures { Starts result input.now }
 {
     if input.len() < 5 {
-        return Framing::Broken;
+        return None;
     }
     if input[0] != 1 {
-        return Framing::Broken;
+        return None;
     }
     let size = number_at(input, 1) as usize;
     if input.len() - 5 <= size {
-        return Framing::Broken;
+        return None;
     }
     let start = 5 + size;
     if is_framed(input, start) {
-        return Framing::At(start);
+        return Some(start);
     }
-    Framing::Broken
+    None
 }
 
 // The family of a kind: types where it is no other section's.
@@ -124,12 +117,15 @@ fn measure_by(family: u32, row: &[u32], pool: &[u8]) -> Answer
         10 => imports::measure(row, pool),
         2 => instances::measure_core(row, pool),
         5 => instances::measure(row, pool),
-        _ => Answer::Refused(Refusal::Limit, 0),
+        _ => Err(Fault {
+            why: Refusal::Limit,
+            value: 0,
+        }),
     }
 }
 
 // All rows of the words tried in order: how many they are and the bytes they take, or the first that is refused.
-fn try_rows(words: &[u32], family: u32, pool: &[u8], room: usize) -> Leaf
+fn try_rows(words: &[u32], family: u32, pool: &[u8], room: usize) -> Result<Span, Fault>
     requires { InRows words.now }
     ensures { result ≡ tries family pool.now room (rows_in words.now) 0 0 }
 {
@@ -140,20 +136,26 @@ fn try_rows(words: &[u32], family: u32, pool: &[u8], room: usize) -> Leaf
         let first = at + 1;
         let end = first + words[at] as usize;
         match measure_by(family, &words[first..end], pool) {
-            Answer::Size(size) => {
+            Ok(size) => {
                 if room - used < size {
-                    return Leaf::Bad(Refusal::Room, rows);
+                    return Err(Fault {
+                        why: Refusal::Room,
+                        value: rows,
+                    });
                 }
                 used += size;
             }
-            Answer::Refused(why, _) => {
-                return Leaf::Bad(why, rows);
+            Err(Fault { why, value: _ }) => {
+                return Err(Fault { why, value: rows });
             }
         }
         rows += 1;
         at = end;
     }
-    Leaf::Fine(rows, used)
+    Ok(Span {
+        took: rows,
+        made: used,
+    })
 }
 
 // The bytes of a row, which was tried, put into body from `used` on: the place past them.
@@ -162,8 +164,8 @@ fn write_one(family: u32, row: &[u32], pool: &[u8], body: &mut [u8], used: usize
     ensures { Wrote body.old used (family_bytes family pool.now row.now) result body.new }
 {
     match sections::write_by(family, row, pool, body, used) {
-        Answer::Size(size) => used + size,
-        Answer::Refused(_, _) => used,
+        Ok(size) => used + size,
+        Err(_) => used,
     }
 }
 
@@ -215,14 +217,14 @@ fn make_rows(words: &[u32], family: u32, pool: &[u8], made: &mut [u8], room: usi
         let first = at + 1;
         let end = first + words[at] as usize;
         match sections::write_by(family, &words[first..end], pool, made, used) {
-            Answer::Size(size) => {
+            Ok(size) => {
                 if room - used < size {
                     return Made::Bad(Refusal::Room, rows);
                 }
                 used += size;
             }
-            Answer::Refused(why, size) => {
-                if fields::number_of(why) != 8 {
+            Err(Fault { why, value: size }) => {
+                if !matches!(why, Refusal::Room) {
                     return Made::Bad(why, rows);
                 }
                 if room - used < size {
@@ -256,14 +258,22 @@ fn sheet_general(words: &[u32], family: u32, pool: &[u8], body: &mut [u8], out: 
     ensures { left result body.new out.new ≡ words_left family words.now pool.now body.old out.old }
 {
     match try_rows(words, family, pool, body.len()) {
-        Leaf::Fine(rows, used) => {
+        Ok(
+            Span {
+                took: rows,
+                made: used,
+            },
+        ) => {
             if out.len() < section_size(rows as u32, used) {
-                return Answer::Refused(Refusal::Room, rows);
+                return Err(Fault {
+                    why: Refusal::Room,
+                    value: rows,
+                });
             }
             write_rows(words, family, pool, body);
             close(family, rows as u32, used, body, out)
         }
-        Leaf::Bad(why, row) => Answer::Refused(why, row),
+        Err(Fault { why, value: row }) => Err(Fault { why, value: row }),
     }
 }
 
@@ -284,12 +294,15 @@ fn sheet_words(
         Made::All(rows, used) => {
             let count = rows as u32;
             if out.len() < section_size(count, used) {
-                return Answer::Refused(Refusal::Room, rows);
+                return Err(Fault {
+                    why: Refusal::Room,
+                    value: rows,
+                });
             }
-            numbers::copy(&made[..used], 0, body);
+            let _ = numbers::copy(&made[..used], 0, body);
             close(family, count, used, body, out)
         }
-        Made::Bad(why, row) => Answer::Refused(why, row),
+        Made::Bad(why, row) => Err(Fault { why, value: row }),
         Made::Small => sheet_general(words, family, pool, body, out),
     }
 }
@@ -314,53 +327,37 @@ fn sheet_rows(
     sheet_words(&scratch[..n], family, &input[5..start], made, body, out)
 }
 
-// The rows with 256 words to lay them out in and 1,024 bytes to make them in. Zeroing large arrays costs more than a small sheet does:
-// the sheet's length chooses one of three functions, and only the arrays of that one are zeroed.
-fn sheet_small(input: &[u8], start: usize, body: &mut [u8], out: &mut [u8]) -> Answer
+// The rows with WORDS words to lay them out in and BYTES bytes to make them in.
+fn sheet_in<const WORDS: usize, const BYTES: usize>(
+    input: &[u8],
+    start: usize,
+    body: &mut [u8],
+    out: &mut [u8],
+) -> Answer
     requires rows_at { RowsAt input.now start }
-    requires input_len_bound { length input.now ≤ 1024 }
+    requires input_len_bound { (length input.now ≤ 4 * WORDS) × (length input.now ≤ sheet_bytes) }
+    requires room { (WORDS ≤ 65536) × (BYTES ≤ 65536) }
     ensures { left result body.new out.new ≡ of_rows (framed input.now) (pool_of input.now) body.old out.old }
 {
-    let mut scratch = [0u32; 256];
-    let mut made = [0u8; 1024];
+    let mut scratch = [0u32; WORDS];
+    let mut made = [0u8; BYTES];
     sheet_rows(input, start, &mut scratch, &mut made, body, out)
 }
 
-// The same with 2,048 words and 8,192 bytes.
-fn sheet_middle(input: &[u8], start: usize, body: &mut [u8], out: &mut [u8]) -> Answer
-    requires rows_at { RowsAt input.now start }
-    requires input_len_bound { length input.now ≤ 8192 }
-    ensures { left result body.new out.new ≡ of_rows (framed input.now) (pool_of input.now) body.old out.old }
-{
-    let mut scratch = [0u32; 2048];
-    let mut made = [0u8; 8192];
-    sheet_rows(input, start, &mut scratch, &mut made, body, out)
-}
-
-// The same with 16,384 words, enough for the longest sheet, and 65,536 bytes.
-fn sheet_large(input: &[u8], start: usize, body: &mut [u8], out: &mut [u8]) -> Answer
-    requires rows_at { RowsAt input.now start }
-    requires input_len_bound { length input.now ≤ sheet_bytes }
-    ensures { left result body.new out.new ≡ of_rows (framed input.now) (pool_of input.now) body.old out.old }
-{
-    let mut scratch = [0u32; ROW_WORDS];
-    let mut made = [0u8; SHEET_BYTES];
-    sheet_rows(input, start, &mut scratch, &mut made, body, out)
-}
-
-// The rows with the smallest of the three scratch rows that has a word for every four bytes of the sheet.
+// The rows with the smallest of three scratch rows that has a word for every four bytes of the sheet. Zeroing large arrays costs more
+// than a small sheet does, so only those of the one that is chosen are zeroed.
 fn sheet_sized(input: &[u8], start: usize, body: &mut [u8], out: &mut [u8]) -> Answer
     requires rows_at { RowsAt input.now start }
     requires input_len_bound { length input.now ≤ sheet_bytes }
     ensures { left result body.new out.new ≡ of_rows (framed input.now) (pool_of input.now) body.old out.old }
 {
     if input.len() <= 1024 {
-        return sheet_small(input, start, body, out);
+        return sheet_in::<256, 1024>(input, start, body, out);
     }
     if input.len() <= 8192 {
-        return sheet_middle(input, start, body, out);
+        return sheet_in::<2048, 8192>(input, start, body, out);
     }
-    sheet_large(input, start, body, out)
+    sheet_in::<ROW_WORDS, SHEET_BYTES>(input, start, body, out)
 }
 
 // The sheet's rows as the bytes at the front of body, and the finished section at the front of out. The answer's value is the
@@ -369,10 +366,16 @@ pub fn sheet(input: &[u8], body: &mut [u8], out: &mut [u8]) -> Answer
     ensures { left result body.new out.new ≡ sheeted input.now body.old out.old }
 {
     if SHEET_BYTES < input.len() {
-        return Answer::Refused(Refusal::Limit, 0);
+        return Err(Fault {
+            why: Refusal::Limit,
+            value: 0,
+        });
     }
     match rows_of(input) {
-        Framing::At(start) => sheet_sized(input, start, body, out),
-        Framing::Broken => Answer::Refused(Refusal::Sheet, 0),
+        Some(start) => sheet_sized(input, start, body, out),
+        None => Err(Fault {
+            why: Refusal::Sheet,
+            value: 0,
+        }),
     }
 }

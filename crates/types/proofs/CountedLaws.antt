@@ -1,4 +1,5 @@
 -- The rounds of the loops over a counted kind's elements: an element that is seen, and one that is put.
+use Rattle.std.specs.Prelude.{Some}
 use Prim.Native.Nat.{ℕ, zero, suc, ◌+◌, ◌-◌, ◌≤◌, ◌<◌}
 use native.Mathlib.Omega.{arith}
 use mathlib.Core.Path.{◌≡◌, refl, ap, ◌∙◌, subst}
@@ -11,7 +12,8 @@ use Rattle.numbers.specs.Bytes as stored
 use Rattle.numbers.specs.Bytes.{store, part_of}
 use Rattle.numbers.specs.Leb.{unsigned}
 use Rattle.numbers.specs.Numbers.{value_of}
-use Rattle.numbers.specs.declared.bytes.Stored.{Stored}
+use Rattle.numbers.specs.Stored.{Stored}
+use Rattle.fields.specs.declared.Field.{Field}
 use Rattle.fields.specs.declared.Field.TheVariants as field
 use Rattle.fields.specs.Words.{word, wide}
 use Rattle.writing.specs.Binary.{valtype, optional}
@@ -22,54 +24,66 @@ use Rattle.fields.specs.Table.{elements}
 use Rattle.writing.proofs.WroteLaws.{then, then-byte, room-first, room-then, of-store}
 use Rattle.writing.specs.Sizes.{right_size}
 use Rattle.writing.specs.inside.Rows.{Rights}
-use Rattle.writing.proofs.RowLaws.{value-known, value-small, case_known, value_at_lem, case_at, nothing_at}
+use Rattle.writing.proofs.RowLaws.{value-known, case_known, value_at_lem, case_at, nothing_at}
 use Rattle.writing.proofs.ElementLaws.{known_next, name_at-small, name_at-known, stored-inside, name-put, named_first, named_room}
 use Rattle.writing.proofs.GroupLaws.{Going, Putting, putting_round, value_words, second_value_words, second_optional_words, name_element, value_element, labelled_element, case_element, byte-wrote}
 use Rattle.types.specs.inside.Optional.{OptionalKnown}
 use Rattle.types.specs.Table.{label, labelvaltype, case}
+use Rattle.types.proofs.SmallLaws.{value-few}
+
+-- ---- loops over n elements, of which i are done: one more is done
+
+module _ {pool : List ℕ} {g : List Field} {element : List ℕ → List ℕ} {row : List ℕ} {from n base at : ℕ} (i : ℕ) where
+  seen_one : {most made : ℕ} → Going pool g element most row from n base (n - i - 1) at made
+      → Going pool g element most row from n base (n - (i + 1)) at made
+  seen_one {most} {made} k = subst (λ d. Going pool g element most row from n base d at made) (omega arith) k
+
+  pub put_one : {old new : List ℕ} {to : ℕ} → Putting pool g element row from n old base (n - i - 1) at to new
+      → Putting pool g element row from n old base (n - (i + 1)) at to new
+  put_one {old} {new} {to} k = subst (λ d. Putting pool g element row from n old base d at to new) (omega arith) k
 
 -- ---- an element that is seen
 
-module _ {pool row : List ℕ} {from n base due at made : ℕ} where
-  pub label_next : Going pool (field.Name ∷ field.Nothing ∷ []) (label pool) 65541 row from n base due at made → 0 < due → length pool ≤ 65536
-      → {one : ℕ} → one ≡ right_size pool field.Name (word row at ∷ word row (at + 1) ∷ []) → 0 < one
-      → Going pool (field.Name ∷ field.Nothing ∷ []) (label pool) 65541 row from n base (due - 1) (at + 2) (made + one)
+module _ {pool row : List ℕ} {from n base i at made : ℕ} where
+  pub label_next : Going pool (field.Name ∷ field.Nothing ∷ []) (label pool) 65541 row from n base (n - i) at made → i < n → length pool ≤ 65536
+      → {one : ℕ} → Some one ≡ right_size pool field.Name (word row at ∷ word row (at + 1) ∷ [])
+      → Going pool (field.Name ∷ field.Nothing ∷ []) (label pool) 65541 row from n base (n - (i + 1)) (at + 2) (made + one)
   unfolding wide widths
-  label_next k h small e p =
-      known_next field.Name field.Nothing pool (name_element pool) k h (name_at-known pool row at e p) (nothing_at pool (drop (at + 2) row)) (omega arith)
-      (name_at-small pool row at small e) refl
+  label_next k h small e =
+      seen_one i (known_next field.Name field.Nothing pool (name_element pool) k (omega arith) (name_at-known pool row at e) (nothing_at pool (drop (at + 2) row)) (omega arith)
+      (name_at-small pool row at small e) refl)
 
-  pub value_next : Going pool (field.Value ∷ field.Nothing ∷ []) (λ ws. valtype (word ws 0) (word ws 1)) 5 row from n base due at made → 0 < due
-      → {one : ℕ} → one ≡ right_size [] field.Value (word row at ∷ word row (at + 1) ∷ []) → 0 < one
-      → Going pool (field.Value ∷ field.Nothing ∷ []) (λ ws. valtype (word ws 0) (word ws 1)) 5 row from n base (due - 1) (at + 2) (made + one)
+  pub value_next : Going pool (field.Value ∷ field.Nothing ∷ []) (λ ws. valtype (word ws 0) (word ws 1)) 5 row from n base (n - i) at made → i < n
+      → {one : ℕ} → Some one ≡ right_size [] field.Value (word row at ∷ word row (at + 1) ∷ [])
+      → Going pool (field.Value ∷ field.Nothing ∷ []) (λ ws. valtype (word ws 0) (word ws 1)) 5 row from n base (n - (i + 1)) (at + 2) (made + one)
   unfolding wide widths
-  value_next k h e p =
-      known_next field.Value field.Nothing pool (value_element pool) k h (value_at_lem pool row at refl refl (value-known e p pool))
-      (nothing_at pool (drop (at + 2) row)) (omega arith) (omega (arith, e, value-small (word row at) (word row (at + 1)))) refl
+  value_next k h e =
+      seen_one i (known_next field.Value field.Nothing pool (value_element pool) k (omega arith) (value_at_lem pool row at refl refl (value-known e pool))
+      (nothing_at pool (drop (at + 2) row)) (omega arith) (value-few (word row at) (word row (at + 1)) e) refl)
 
-  pub field_next : Going pool (field.Name ∷ field.Value ∷ []) (labelvaltype pool) 65546 row from n base due at made → 0 < due
-      → length pool ≤ 65536 → {one two : ℕ} → one ≡ right_size pool field.Name (word row at ∷ word row (at + 1) ∷ []) → 0 < one
-      → two ≡ right_size [] field.Value (word row (at + 2) ∷ word row (at + 3) ∷ []) → 0 < two
-      → Going pool (field.Name ∷ field.Value ∷ []) (labelvaltype pool) 65546 row from n base (due - 1) (at + 4) (made + (one + two))
+  pub field_next : Going pool (field.Name ∷ field.Value ∷ []) (labelvaltype pool) 65546 row from n base (n - i) at made → i < n
+      → length pool ≤ 65536 → {one two : ℕ} → Some one ≡ right_size pool field.Name (word row at ∷ word row (at + 1) ∷ [])
+      → Some two ≡ right_size [] field.Value (word row (at + 2) ∷ word row (at + 3) ∷ [])
+      → Going pool (field.Name ∷ field.Value ∷ []) (labelvaltype pool) 65546 row from n base (n - (i + 1)) (at + 4) (made + (one + two))
   unfolding wide widths
-  field_next k h small e p d q =
-      let i : at + 3 ≡ at + 2 + 1 = omega arith in
-      known_next field.Name field.Value pool (labelled_element pool) k h (name_at-known pool row at e p)
-      (value_at_lem pool row (at + 2) refl (ap (λ j. word row j) i) (value-known d q pool)) refl
-      (omega (arith, name_at-small pool row at small e, d, value-small (word row (at + 2)) (word row (at + 3)))) refl
+  field_next k h small e d =
+      let next : at + 3 ≡ at + 2 + 1 = omega arith in
+      seen_one i (known_next field.Name field.Value pool (labelled_element pool) k (omega arith) (name_at-known pool row at e)
+      (value_at_lem pool row (at + 2) refl (ap (λ j. word row j) next) (value-known d pool)) refl
+      (omega (arith, name_at-small pool row at small e, value-few (word row (at + 2)) (word row (at + 3)) d)) refl)
 
-  pub case_next : Going pool (field.Name ∷ field.OptionalThenZero ∷ []) (case pool) 65548 row from n base due at made → 0 < due
-      → length pool ≤ 65536 → {one two : ℕ} → one ≡ right_size pool field.Name (word row at ∷ word row (at + 1) ∷ []) → 0 < one
+  pub case_next : Going pool (field.Name ∷ field.OptionalThenZero ∷ []) (case pool) 65548 row from n base (n - i) at made → i < n
+      → length pool ≤ 65536 → {one two : ℕ} → Some one ≡ right_size pool field.Name (word row at ∷ word row (at + 1) ∷ [])
       → OptionalKnown 1 (word row (at + 2)) (word row (at + 3)) two → two ≤ 6
-      → Going pool (field.Name ∷ field.OptionalThenZero ∷ []) (case pool) 65548 row from n base (due - 1) (at + 4) (made + (one + two + 1))
+      → Going pool (field.Name ∷ field.OptionalThenZero ∷ []) (case pool) 65548 row from n base (n - (i + 1)) (at + 4) (made + (one + two + 1))
   unfolding wide widths optional
-  case_next k h small {one} {two} e p s few =
+  case_next k h small {one} {two} e s few =
       let t = word row (at + 2) in
       let x = word row (at + 3) in
-      let i : at + 3 ≡ at + 2 + 1 = omega arith in
-      known_next field.Name field.OptionalThenZero pool (case_element pool) k h (name_at-known pool row at e p)
-      (case_at pool row (at + 2) refl (ap (λ j. word row j) i) (case_known t x pool s.right (ap (λ (m : ℕ). m + 1) (s.size ∙ go t x (eqb t 2)))))
-      (omega arith) (omega (arith, name_at-small pool row at small e)) refl
+      let next : at + 3 ≡ at + 2 + 1 = omega arith in
+      seen_one i (known_next field.Name field.OptionalThenZero pool (case_element pool) k (omega arith) (name_at-known pool row at e)
+      (case_at pool row (at + 2) refl (ap (λ j. word row j) next) (case_known t x pool s.right (ap (λ (m : ℕ). m + 1) (s.size ∙ go t x (eqb t 2)))))
+      (omega arith) (omega (arith, name_at-small pool row at small e)) refl)
     where
       go : (t x : ℕ) (b : Bool) → cond b 1 (1 + length (valtype t x)) ≡ length (cond b (0x00 ∷ []) (0x01 ∷ valtype t x))
       go t x true = refl

@@ -1,4 +1,6 @@
 -- A function's row in straight code: what is seen of it makes its size, and its parts put one after the other make its bytes.
+use Rattle.std.specs.Prelude.{Ok}
+use Rattle.std.specs.Prelude.{Some}
 use Prim.Native.Nat.{ℕ, ◌+◌, ◌*◌, ◌≤◌, ◌<◌}
 use native.Mathlib.Omega.{arith}
 use mathlib.Core.Path.{◌≡◌, refl, sym, ap, ◌∙◌, subst}
@@ -11,10 +13,8 @@ use Rattle.numbers.specs.Bytes as stored
 use Rattle.numbers.specs.Bytes.{store}
 use Rattle.numbers.specs.Leb.{unsigned}
 use Rattle.numbers.specs.Numbers.{value_of}
-use Rattle.numbers.specs.declared.bytes.Stored.{Stored}
-use Rattle.fields.specs.declared.Answer.TheVariants.{Size}
+use Rattle.numbers.specs.Stored.{Stored}
 use Rattle.fields.specs.declared.Field.TheVariants as field
-use Rattle.fields.specs.declared.Found.TheVariants.{Is}
 use Rattle.fields.specs.Words.{word, wide}
 use Rattle.writing.specs.Binary.{functype, valtype, resultlist, bytes}
 use Rattle.writing.specs.Judge.{flaw}
@@ -53,7 +53,7 @@ module _ (row pool : List ℕ) where
       → {q base r : ℕ} → OptionalKnown 2 (word row (3 + word row 2 * 4)) (word row (3 + word row 2 * 4 + 1)) q
       → base ≡ 1 + length (unsigned (word row 2)) + q
       → Groups pool (field.Name ∷ field.Value ∷ []) (labelvaltype pool) (word row 2) (drop 3 row) base r
-      → measured_row (Is function_shape) row pool ≡ Size r
+      → measured_row (Some function_shape) row pool ≡ Ok r
   unfolding wide widths flaw bytes
   function_known small short width a {q} {base} {r} o eb g =
       many_known field.Nothing field.Nothing field.Async field.Name field.Value field.Result refl refl refl row pool

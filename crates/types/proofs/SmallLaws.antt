@@ -1,7 +1,8 @@
 -- What the straight code of an O and of the kinds without names and counts comes to: what was seen makes a size, and what was stored the bytes.
+use Rattle.std.specs.Prelude.{Option, Some, Ok, IfSome}
 use Prim.Native.Nat.{ℕ, ◌+◌, ◌≤◌, ◌<◌}
 use native.Mathlib.Omega.{arith}
-use mathlib.Core.Path.{◌≡◌, refl, ◌∙◌, subst}
+use mathlib.Core.Path.{◌≡◌, refl, sym, ◌∙◌, subst}
 use mathlib.Core.Bool.{Bool, true, false, cond}
 use mathlib.Core.List.{List, [], ◌∷◌, ◌++◌}
 use borrow.Author.Tests.{eq-eqb, ne_eqb}
@@ -11,10 +12,8 @@ use lib.Seq.{sets}
 use Rattle.numbers.specs.Bytes.{left, store}
 use Rattle.numbers.specs.Leb.{unsigned}
 use Rattle.numbers.specs.Numbers.{value_of}
-use Rattle.numbers.specs.declared.bytes.Stored.{Stored}
-use Rattle.fields.specs.declared.Answer.TheVariants.{Size}
+use Rattle.numbers.specs.Stored.{Stored}
 use Rattle.fields.specs.declared.Field.TheVariants as field
-use Rattle.fields.specs.declared.Found.TheVariants.{Is}
 use Rattle.fields.specs.Words.{word, wide}
 use Rattle.writing.specs.Binary.{primvaltype, valtype, optional, resultlist, representation, destructor, bytes}
 use Rattle.writing.specs.Row.{measured_row}
@@ -25,6 +24,7 @@ use Rattle.writing.specs.Sizes.{right_size}
 use Rattle.writing.specs.inside.Rows.{Known}
 use Rattle.writing.proofs.RowLaws.{
   value-known,
+  value-small,
   none_right,
   some_right,
   optional_known,
@@ -46,16 +46,25 @@ use Rattle.writing.proofs.GroupLaws.{byte-wrote, bytes-wrote, number_wrote}
 use Rattle.types.specs.inside.Optional.{OptionalKnown}
 use Rattle.types.specs.Table.{two}
 
+-- ---- a size that is found
+
+pub found : (P : ℕ → Type 0) {o : Option ℕ} {r : ℕ} → o ≡ Some r → IfSome o P → P r
+found P e h = subst (λ x. IfSome x P) e h
+
+-- a V has few bytes
+pub value-few : (t x : ℕ) {r : ℕ} → Some r ≡ right_size [] field.Value (t ∷ x ∷ []) → r ≤ 5
+value-few t x e = found (λ n. n ≤ 5) (sym e) (value-small t x)
+
 -- ---- an O
 
-module _ (none t x : ℕ) where
-  pub absent_known : t ≡ 2 → x ≡ 0 → OptionalKnown none t x none
+module _ (absent t x : ℕ) where
+  pub absent_known : t ≡ 2 → x ≡ 0 → OptionalKnown absent t x absent
   absent_known e z = record { right = none_right t x e z; size = simp (eq-eqb _ _ e) }
 
-  pub present_known : (t ≡ 2 → ⊥) → {r : ℕ} → r ≡ right_size [] field.Value (t ∷ x ∷ []) → 0 < r → OptionalKnown none t x (1 + r)
+  pub present_known : (t ≡ 2 → ⊥) → {r : ℕ} → Some r ≡ right_size [] field.Value (t ∷ x ∷ []) → OptionalKnown absent t x (1 + r)
   unfolding bytes
-  present_known n {r} e h =
-      let s : Known [] field.Value (t ∷ x ∷ []) r = value-known e h [] in
+  present_known n {r} e =
+      let s : Known [] field.Value (t ∷ x ∷ []) r = value-known e [] in
       record { right = some_right t x n [] s.right; size = simp (ne_eqb _ _ n) (omega (arith, s.size)) }
 
 pub known-optional : (pool : List ℕ) {t x r : ℕ} → OptionalKnown 1 t x r → Known pool field.Optional (t ∷ x ∷ []) r
@@ -115,37 +124,37 @@ module _ (l : List ℕ) (i t x : ℕ) where
 -- ---- the sizes of rows
 
 pub primitive-row : (row : List ℕ) → length row ≡ 2 → word row 1 < 14 → (pool : List ℕ) → length pool ≤ 65536
-    → measured_row (Is (two_of field.Nothing field.Nothing field.Primitive field.Nothing)) row pool ≡ Size 1
+    → measured_row (Some (two_of field.Nothing field.Nothing field.Primitive field.Nothing)) row pool ≡ Ok 1
 unfolding wide
 primitive-row row e h pool small =
     bare_known field.Primitive field.Nothing row pool small (omega arith) e (primitive_at pool row 1 refl h) (nothing_at pool (drop 2 row)) refl
 
 module _ (row : List ℕ) where
-  module _ {p : ℕ} (ep : p ≡ right_size [] field.Value (word row 1 ∷ word row 2 ∷ [])) (hp : 0 < p) where
+  module _ {p : ℕ} (ep : Some p ≡ right_size [] field.Value (word row 1 ∷ word row 2 ∷ [])) where
     value_first : (pool : List ℕ) → Known pool field.Value (drop 1 row) p
-    value_first pool = value_at_lem pool row 1 refl refl (value-known ep hp pool)
+    value_first pool = value_at_lem pool row 1 refl refl (value-known ep pool)
 
     pub value_row : length row ≡ 3 → (lead : ℕ) (pool : List ℕ) → length pool ≤ 65536
-        → measured_row (Is (two lead field.Value field.Nothing)) row pool ≡ Size (1 + p)
+        → measured_row (Some (two lead field.Value field.Nothing)) row pool ≡ Ok (1 + p)
     unfolding wide
     value_row e lead pool small =
         lead_known lead field.Value field.Nothing row pool small (omega arith) e (value_first pool) (nothing_at pool (drop 3 row)) (omega arith)
 
-    pub values_row : {q : ℕ} → q ≡ right_size [] field.Value (word row 3 ∷ word row 4 ∷ []) → 0 < q → length row ≡ 5 → (lead : ℕ) (pool : List ℕ)
-        → length pool ≤ 65536 → measured_row (Is (two lead field.Value field.Value)) row pool ≡ Size (1 + p + q)
+    pub values_row : {q : ℕ} → Some q ≡ right_size [] field.Value (word row 3 ∷ word row 4 ∷ []) → length row ≡ 5 → (lead : ℕ) (pool : List ℕ)
+        → length pool ≤ 65536 → measured_row (Some (two lead field.Value field.Value)) row pool ≡ Ok (1 + p + q)
     unfolding wide
-    values_row eq hq e lead pool small =
+    values_row eq e lead pool small =
         lead_known lead field.Value field.Value row pool small (omega arith) e (value_first pool)
-        (value_at_lem pool row 3 refl refl (value-known eq hq pool)) refl
+        (value_at_lem pool row 3 refl refl (value-known eq pool)) refl
 
     pub fixed_row : {q : ℕ} → q ≡ length (unsigned (word row 3)) → length row ≡ 4 → (lead : ℕ) (pool : List ℕ) → length pool ≤ 65536
-        → measured_row (Is (two lead field.Value field.Index)) row pool ≡ Size (1 + p + q)
+        → measured_row (Some (two lead field.Value field.Index)) row pool ≡ Ok (1 + p + q)
     unfolding wide
     fixed_row eq e lead pool small =
         lead_known lead field.Value field.Index row pool small (omega arith) e (value_first pool) (index_at pool row 3 refl eq) refl
 
   pub index_row_lem : {p : ℕ} → p ≡ length (unsigned (word row 1)) → length row ≡ 2 → (lead : ℕ) (pool : List ℕ) → length pool ≤ 65536
-      → measured_row (Is (two lead field.Index field.Nothing)) row pool ≡ Size (1 + p)
+      → measured_row (Some (two lead field.Index field.Nothing)) row pool ≡ Ok (1 + p)
   unfolding wide
   index_row_lem ep e lead pool small =
       lead_known lead field.Index field.Nothing row pool small (omega arith) e (index_at pool row 1 refl ep) (nothing_at pool (drop 2 row))
@@ -156,14 +165,14 @@ module _ (row : List ℕ) where
     optional_first pool = optional_at pool row 1 refl refl (known-optional pool sp)
 
     pub optional_row : length row ≡ 3 → (lead : ℕ) (pool : List ℕ) → length pool ≤ 65536
-        → measured_row (Is (two lead field.Optional field.Nothing)) row pool ≡ Size (1 + p)
+        → measured_row (Some (two lead field.Optional field.Nothing)) row pool ≡ Ok (1 + p)
     unfolding wide
     optional_row e lead pool small =
         lead_known lead field.Optional field.Nothing row pool small (omega arith) e (optional_first pool) (nothing_at pool (drop 3 row))
         (omega arith)
 
     pub optionals_row : {q : ℕ} → OptionalKnown 1 (word row 3) (word row 4) q → length row ≡ 5 → (lead : ℕ) (pool : List ℕ)
-        → length pool ≤ 65536 → measured_row (Is (two lead field.Optional field.Optional)) row pool ≡ Size (1 + p + q)
+        → length pool ≤ 65536 → measured_row (Some (two lead field.Optional field.Optional)) row pool ≡ Ok (1 + p + q)
     unfolding wide
     optionals_row sq e lead pool small =
         lead_known lead field.Optional field.Optional row pool small (omega arith) e (optional_first pool)
@@ -171,19 +180,19 @@ module _ (row : List ℕ) where
 
   module _ (e : length row ≡ 4) (h : word row 1 < 2) where
     resource_row : {q : ℕ} (pool : List ℕ) → Known pool field.OptionalIndex (word row 2 ∷ word row 3 ∷ []) q → {r : ℕ} → r ≡ 2 + q
-        → (lead : ℕ) → length pool ≤ 65536 → measured_row (Is (two lead field.Rep field.OptionalIndex)) row pool ≡ Size r
+        → (lead : ℕ) → length pool ≤ 65536 → measured_row (Some (two lead field.Rep field.OptionalIndex)) row pool ≡ Ok r
     unfolding wide
     resource_row pool s er lead small =
         lead_known lead field.Rep field.OptionalIndex row pool small (omega arith) e (rep_at pool row 1 refl h)
         (destructor_at pool row 2 refl refl s) (omega arith)
 
     pub resource_absent : word row 2 ≡ 0 → word row 3 ≡ 0 → (lead : ℕ) (pool : List ℕ) → length pool ≤ 65536
-        → measured_row (Is (two lead field.Rep field.OptionalIndex)) row pool ≡ Size 3
+        → measured_row (Some (two lead field.Rep field.OptionalIndex)) row pool ≡ Ok 3
     resource_absent z w lead pool small =
         resource_row pool (destructor_absent (word row 2) (word row 3) pool z w) refl lead small
 
     pub resource_present : word row 2 ≡ 1 → {q : ℕ} → q ≡ length (unsigned (word row 3)) → (lead : ℕ) (pool : List ℕ) → length pool ≤ 65536
-        → measured_row (Is (two lead field.Rep field.OptionalIndex)) row pool ≡ Size (3 + q)
+        → measured_row (Some (two lead field.Rep field.OptionalIndex)) row pool ≡ Ok (3 + q)
     resource_present z eq lead pool small =
         resource_row pool (destructor_present (word row 2) (word row 3) pool z eq) (omega arith) lead small
 

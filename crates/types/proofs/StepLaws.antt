@@ -1,4 +1,6 @@
 -- The steps of an open function: words from 0 on are a row behind a kind, and so the laws of rows are theirs.
+use Rattle.std.specs.Prelude.{Some}
+use Rattle.std.specs.Prelude.{Err, Ok}
 use Prim.Native.Nat.{ℕ, ◌+◌, ◌*◌, ◌≤◌, ◌<◌}
 use native.Mathlib.Omega.{arith}
 use mathlib.Core.Path.{◌≡◌, refl, sym, ap, ◌∙◌, subst}
@@ -12,18 +14,18 @@ use Rattle.numbers.specs.Bytes as storing
 use Rattle.numbers.specs.Bytes.{store}
 use Rattle.numbers.specs.Leb.{unsigned}
 use Rattle.numbers.specs.Numbers.{value_of}
-use Rattle.numbers.specs.declared.bytes.Stored.{Stored}
-use Rattle.fields.specs.declared.Answer.{Answer}
-use Rattle.fields.specs.declared.Answer.TheVariants.{Size, Refused}
+use Rattle.numbers.specs.Stored.{Stored}
+use Rattle.fields.specs.Answer.{Answer}
+use Rattle.fields.specs.Answer.{Refused}
 use Rattle.fields.specs.declared.Field.{Field}
 use Rattle.fields.specs.declared.Field.TheVariants as field
-use Rattle.fields.specs.declared.Found.TheVariants.{Is}
-use Rattle.fields.specs.declared.Leaf.{Leaf}
-use Rattle.fields.specs.declared.Leaf.TheVariants.{Fine, Bad}
+use Rattle.fields.specs.Leaf.{Leaf}
+use Rattle.fields.specs.Leaf.{Fine, Bad}
 use Rattle.fields.specs.declared.Refusal.{Refusal}
 use Rattle.fields.specs.declared.Refusal.TheVariants as refusal
 use Rattle.fields.specs.declared.Shape.{Shape}
 use Rattle.fields.specs.Words.{word, wide}
+use Rattle.fields.proofs.OutcomeLaws.{fine-same}
 use Rattle.writing.specs.Binary.{functype, valtype, resultlist, bytes}
 use Rattle.writing.specs.Judge.{flaw, judge}
 use Rattle.writing.specs.Row.{measured_row, row_bytes}
@@ -64,22 +66,22 @@ module _ (s : Shape) (row : List ℕ) (start : ℕ) (pool : List ℕ) {found : A
   unfolding write_shape stored
   write_refused e = rw (← ef, e)
 
-  module _ {size : ℕ} (e : found ≡ Size size) where
+  module _ {size : ℕ} (e : found ≡ Ok size) where
     pub write_cramped : length out < at + size → refuse refusal.Room size out ≡ write_shape s row start pool out at
     unfolding write_shape stored
     write_cramped h = rw (← ef, e) (simp (lt-leb _ _ h))
 
     pub write_whole : at + size ≤ length out → (new : List ℕ) → new ≡ sets out at (written s pool row start)
-        → left (Size size) new ≡ write_shape s row start pool out at
+        → left (Ok size) new ≡ write_shape s row start pool out at
     unfolding write_shape stored
-    write_whole h new p = rw (← ef, e) (simp (le-leb _ _ h) (ap (λ l. left (Size size) l) p))
+    write_whole h new p = rw (← ef, e) (simp (le-leb _ _ h) (ap (λ l. left (Ok size) l) p))
 
 -- ---- words from 0 on, and behind a kind
 
 -- a walk from the next place on is the same walk, moved
 abbrev moved : Leaf → Leaf
-moved (Fine a m) = Fine (1 + a) m
-moved (Bad w j) = Bad w (1 + j)
+moved (Ok span) = Fine (1 + span.took) span.made
+moved (Err fault) = Bad fault.why (1 + fault.value)
 
 along-moved : (pool : List ℕ) (fs : List Field) (ws : List ℕ) (at made : ℕ)
     → along (judge pool) fs ws (1 + at) made ≡ moved (along (judge pool) fs ws at made)
@@ -91,12 +93,12 @@ along-moved pool (f ∷ fs) ws at made = go (judge pool f ws) (λ t m. along-mov
         → ((t m : ℕ) → along (judge pool) fs (drop t ws) (1 + (at + t)) (made + m) ≡ moved (along (judge pool) fs (drop t ws) (at + t) (made + m)))
         → next l (λ t m. along (judge pool) fs (drop t ws) (1 + at + t) (made + m)) (1 + at)
         ≡ moved (next l (λ t m. along (judge pool) fs (drop t ws) (at + t) (made + m)) at)
-    go (Fine t m) ih =
-        let p : 1 + at + t ≡ 1 + (at + t) = omega arith in
-        ap (λ k. along (judge pool) fs (drop t ws) k (made + m)) p ∙ ih t m
-    go (Bad w j) ih =
-        let p : 1 + at + j ≡ 1 + (at + j) = omega arith in
-        ap (Bad w) p
+    go (Ok span) ih =
+        let p : 1 + at + span.took ≡ 1 + (at + span.took) = omega arith in
+        ap (λ k. along (judge pool) fs (drop span.took ws) k (made + span.made)) p ∙ ih span.took span.made
+    go (Err fault) ih =
+        let p : 1 + at + fault.value ≡ 1 + (at + fault.value) = omega arith in
+        ap (Bad fault.why) p
 
 module _ (s : Shape) (pool words : List ℕ) where
   abbrev W : ℕ
@@ -119,15 +121,15 @@ module _ (s : Shape) (pool words : List ℕ) where
 
   module _ {n : ℕ} where
     -- a row behind a kind that has a size: so have its words
-    pub row_step : measured_row (Is s) (0 ∷ words) pool ≡ Size n → measured s words 0 pool ≡ Size n
+    pub row_step : measured_row (Some s) (0 ∷ words) pool ≡ Ok n → measured s words 0 pool ≡ Ok n
     unfolding measured sized
     row_step e = go (judged s pool words 0) refl
       where
-        shaped : Accepted (Is s) (0 ∷ words) pool n → Sized s (0 ∷ words) 1 pool n
+        shaped : Accepted (Some s) (0 ∷ words) pool n → Sized s (0 ∷ words) 1 pool n
         shaped a = let h = a.is in let same : a.shape ≡ s = cc in subst (λ x. Sized x (0 ∷ words) 1 pool n) same a.sized
 
         k : Sized s (0 ∷ words) 1 pool n
-        k = shaped (accepted (Is s) (0 ∷ words) pool n e)
+        k = shaped (accepted (Some s) (0 ∷ words) pool n e)
 
         width : row_width s words 0 ≡ length words
         width = omega (arith, k.width, width_moved)
@@ -135,18 +137,18 @@ module _ (s : Shape) (pool words : List ℕ) where
         short : length words ≤ 16384
         short = omega (arith, k.short)
 
-        go : (l : Leaf) → judged s pool words 0 ≡ l → measured s words 0 pool ≡ Size n
-        go (Fine a m) p =
-            let r : Fine (1 + a) m ≡ Fine k.end n = ap moved (sym p) ∙ sym judged_moved ∙ k.judges in
-            let same : m ≡ n = cc in
-            simp (le-ltb _ _ short, le-ltb _ _ k.small, eq-eqb _ _ width, p) (ap Size same)
-        go (Bad w j) p =
-            let r : Bad w (1 + j) ≡ Fine k.end n = ap moved (sym p) ∙ sym judged_moved ∙ k.judges in
+        go : (l : Leaf) → judged s pool words 0 ≡ l → measured s words 0 pool ≡ Ok n
+        go (Ok span) p =
+            let r : Fine (1 + span.took) span.made ≡ Fine k.end n = ap moved (sym p) ∙ sym judged_moved ∙ k.judges in
+            let same : span.made ≡ n = (fine-same r).1 in
+            simp (le-ltb _ _ short, le-ltb _ _ k.small, eq-eqb _ _ width, p) (ap Ok same)
+        go (Err fault) p =
+            let r : Bad fault.why (1 + fault.value) ≡ Fine k.end n = ap moved (sym p) ∙ sym judged_moved ∙ k.judges in
             impossible cc
 
     -- and the other way, with the same bytes
     pub step_row : Sized s words 0 pool n → length words < 16384
-        → (measured_row (Is s) (0 ∷ words) pool ≡ Size n) × (written s pool words 0 ≡ row_bytes (Is s) pool (0 ∷ words))
+        → (measured_row (Some s) (0 ∷ words) pool ≡ Ok n) × (written s pool words 0 ≡ row_bytes (Some s) pool (0 ∷ words))
     unfolding row_bytes
     step_row k short = (
       sized-accepted s (0 ∷ words) pool n
@@ -172,7 +174,7 @@ module _ (words pool : List ℕ) where
   pub head_known : length pool ≤ 65536 → length words ≤ 16384 → length words ≡ 2 + word words 1 * 4 → word words 0 < 2
       → {base r : ℕ} → base ≡ 1 + length (unsigned (word words 1))
       → Groups pool (field.Name ∷ field.Value ∷ []) (labelvaltype pool) (word words 1) (drop 2 words) base r
-      → measured head_shape words 0 pool ≡ Size r
+      → measured head_shape words 0 pool ≡ Ok r
   unfolding wide widths flaw bytes
   head_known small short width a eb g =
       row_step head_shape pool words
@@ -180,7 +182,7 @@ module _ (words pool : List ℕ) where
       (λ ws. labelled_element pool ws) (λ ws. refl) (λ ws. refl) small (omega arith) (omega arith) (async_at pool (0 ∷ words) 1 refl a)
       (omega arith) g (nothing_at pool (drop (3 + word words 1 * 4) (0 ∷ words))) (omega arith))
 
-  pub head_held : {n : ℕ} → measured head_shape words 0 pool ≡ Size n → HeadHeld words pool n
+  pub head_held : {n : ℕ} → measured head_shape words 0 pool ≡ Ok n → HeadHeld words pool n
   unfolding wide widths bytes row_width
   head_held {n} e =
       record {
@@ -197,7 +199,7 @@ module _ (words pool : List ℕ) where
       width : length words ≡ 2 + word words 1 * 4
       width = omega (arith, k.width)
 
-      row : (measured_row (Is head_shape) (0 ∷ words) pool ≡ Size n) × (written head_shape pool words 0 ≡ row_bytes (Is head_shape) pool (0 ∷ words))
+      row : (measured_row (Some head_shape) (0 ∷ words) pool ≡ Ok n) × (written head_shape pool words 0 ≡ row_bytes (Some head_shape) pool (0 ∷ words))
       row = step_row head_shape pool words k (omega (arith, k.short, width))
 
       h : ManyHeld field.Nothing field.Nothing field.Async field.Name field.Value field.Nothing 4 (labelvaltype pool) (0 ∷ words) pool n
@@ -251,7 +253,7 @@ pub result_written : (tag x : ℕ) → written result_shape [] (tag ∷ x ∷ []
 unfolding outs seq bytes judge flaw wide
 result_written tag x = append-nil (resultlist tag x)
 
-pub result_measured : {tag x r : ℕ} → OptionalKnown 2 tag x r → measured result_shape (tag ∷ x ∷ []) 0 [] ≡ Size r
+pub result_measured : {tag x r : ℕ} → OptionalKnown 2 tag x r → measured result_shape (tag ∷ x ∷ []) 0 [] ≡ Ok r
 unfolding wide
 result_measured {tag} {x} {r} o =
     row_step result_shape [] (tag ∷ x ∷ [])
@@ -259,7 +261,7 @@ result_measured {tag} {x} {r} o =
     (omega arith))
 
 -- what has a size has the bytes of a result, one at least
-pub result_held : (tag x : ℕ) {n : ℕ} → measured result_shape (tag ∷ x ∷ []) 0 [] ≡ Size n → (n ≡ length (resultlist tag x)) × (0 < n)
+pub result_held : (tag x : ℕ) {n : ℕ} → measured result_shape (tag ∷ x ∷ []) 0 [] ≡ Ok n → (n ≡ length (resultlist tag x)) × (0 < n)
 result_held tag x {n} e = (size, omega (arith, size, some))
   where
     size : n ≡ length (resultlist tag x)

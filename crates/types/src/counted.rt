@@ -1,9 +1,10 @@
-// Kinds with a count in straight code: how many bytes a row makes, 0 where not all of it is seen to be right, and its bytes.
-ghost use Rattle.std.specs.Prelude.{ℕ, ◌<◌, ◌≤◌, ◌+◌, ◌*◌, ◌^◌, List, ◌∷◌, [], ◌++◌, ◌≡◌, length, drop};
+// Kinds with a count in straight code. Each has its own loop: of one loop over a closure, each closure needs clauses as long as the loop.
+// Their parts: how many bytes a row makes, if all of it is seen to be right, and its bytes.
+ghost use Rattle.std.specs.Prelude.{IfSome, ℕ, ◌<◌, ◌≤◌, ◌+◌, ◌*◌, ◌^◌, List, ◌∷◌, [], ◌++◌, ◌≡◌, length, drop};
 ghost use Rattle.std.proofs.lemmas.List.Edits.{sets};
 ghost use Rattle.numbers.specs.Leb.{unsigned};
-ghost use Rattle.fields.specs.declared.Answer.TheVariants.{Size};
-ghost use Rattle.fields.specs.declared.Found.TheVariants.{Is};
+ghost use Rattle.std.specs.Prelude.{Ok};
+ghost use Rattle.std.specs.Prelude.{Some};
 ghost use Rattle.fields.specs.Words.{word};
 ghost use Rattle.writing.specs.Binary.{valtype};
 ghost use Rattle.writing.specs.Row.{measured_row};
@@ -20,24 +21,18 @@ use numbers::{stored_size, unsigned_size};
 use writing::{name_size, value_size};
 
 // n labels, whose words stand from `from` on, with `base` bytes before them.
-fn labels_size(row: &[u32], from: usize, n: usize, pool: &[u8], base: usize) -> usize
+fn labels_size(row: &[u32], from: usize, n: usize, pool: &[u8], base: usize) -> Option<usize>
     requires pool_len_bound { (length pool.now ≤ pool_bytes) × (length row.now ≤ row_words) }
     requires n_in_bounds { (from + n * 2 ≤ length row.now) × (base ≤ 16) }
-    ensures { 0 < result → Groups pool.now (Field.Name ∷ Field.Nothing ∷ []) (label pool.now) n (drop from row.now) base result }
+    ensures { IfSome result (λ r. Groups pool.now (Field.Name ∷ Field.Nothing ∷ []) (label pool.now) n (drop from row.now) base r) }
 {
     let mut at = from;
     let mut made = base;
-    let mut due = n;
-    while 0 < due {
-        let one = name_size(pool, row[at], row[at + 1]);
-        if one == 0 {
-            return 0;
-        }
-        made += one;
+    for _ in 0..n {
+        made += name_size(pool, row[at], row[at + 1])?;
         at += 2;
-        due -= 1;
     }
-    made
+    Some(made)
 }
 
 fn put_labels(row: &[u32], from: usize, n: usize, pool: &[u8], out: &mut [u8], base: usize)
@@ -48,33 +43,25 @@ fn put_labels(row: &[u32], from: usize, n: usize, pool: &[u8], out: &mut [u8], b
 {
     let mut at = from;
     let mut to = base;
-    let mut due = n;
-    while 0 < due {
+    for _ in 0..n {
         to += stored_size(writing::put_name(pool, row[at], row[at + 1], to, out));
         at += 2;
-        due -= 1;
     }
 }
 
 // n V.
-fn values_size(row: &[u32], from: usize, n: usize, base: usize) -> usize
+fn values_size(row: &[u32], from: usize, n: usize, base: usize) -> Option<usize>
     requires row_len_bound { length row.now ≤ row_words }
     requires n_in_bounds { (from + n * 2 ≤ length row.now) × (base ≤ 16) }
-    ensures { 0 < result → (pool : List ℕ) → Groups pool (Field.Value ∷ Field.Nothing ∷ []) (λ ws. valtype (word ws 0) (word ws 1)) n (drop from row.now) base result }
+    ensures { IfSome result (λ r. (pool : List ℕ) → Groups pool (Field.Value ∷ Field.Nothing ∷ []) (λ ws. valtype (word ws 0) (word ws 1)) n (drop from row.now) base r) }
 {
     let mut at = from;
     let mut made = base;
-    let mut due = n;
-    while 0 < due {
-        let one = value_size(row[at], row[at + 1]);
-        if one == 0 {
-            return 0;
-        }
-        made += one;
+    for _ in 0..n {
+        made += value_size(row[at], row[at + 1])?;
         at += 2;
-        due -= 1;
     }
-    made
+    Some(made)
 }
 
 fn put_values(row: &[u32], from: usize, n: usize, out: &mut [u8], base: usize)
@@ -84,37 +71,25 @@ fn put_values(row: &[u32], from: usize, n: usize, out: &mut [u8], base: usize)
 {
     let mut at = from;
     let mut to = base;
-    let mut due = n;
-    while 0 < due {
+    for _ in 0..n {
         to += stored_size(writing::put_value(row[at], row[at + 1], to, out));
         at += 2;
-        due -= 1;
     }
 }
 
 // n fields of a record, or parameters: a label and a V.
-pub fn fields_size(row: &[u32], from: usize, n: usize, pool: &[u8], base: usize) -> usize
+pub fn fields_size(row: &[u32], from: usize, n: usize, pool: &[u8], base: usize) -> Option<usize>
     requires pool_len_bound { (length pool.now ≤ pool_bytes) × (length row.now ≤ row_words) }
     requires n_in_bounds { (from + n * 4 ≤ length row.now) × (base ≤ 16) }
-    ensures { 0 < result → Groups pool.now (Field.Name ∷ Field.Value ∷ []) (labelvaltype pool.now) n (drop from row.now) base result }
+    ensures { IfSome result (λ r. Groups pool.now (Field.Name ∷ Field.Value ∷ []) (labelvaltype pool.now) n (drop from row.now) base r) }
 {
     let mut at = from;
     let mut made = base;
-    let mut due = n;
-    while 0 < due {
-        let one = name_size(pool, row[at], row[at + 1]);
-        let two = value_size(row[at + 2], row[at + 3]);
-        if one == 0 {
-            return 0;
-        }
-        if two == 0 {
-            return 0;
-        }
-        made += one + two;
+    for _ in 0..n {
+        made += name_size(pool, row[at], row[at + 1])? + value_size(row[at + 2], row[at + 3])?;
         at += 4;
-        due -= 1;
     }
-    made
+    Some(made)
 }
 
 pub fn put_fields(
@@ -132,39 +107,28 @@ pub fn put_fields(
 {
     let mut at = from;
     let mut to = base;
-    let mut due = n;
-    while 0 < due {
+    for _ in 0..n {
         to += stored_size(writing::put_name(pool, row[at], row[at + 1], to, out));
         to += stored_size(writing::put_value(row[at + 2], row[at + 3], to, out));
         at += 4;
-        due -= 1;
     }
     to
 }
 
 // n cases of a variant: a label, an O and 00.
-fn cases_size(row: &[u32], from: usize, n: usize, pool: &[u8], base: usize) -> usize
+fn cases_size(row: &[u32], from: usize, n: usize, pool: &[u8], base: usize) -> Option<usize>
     requires pool_len_bound { (length pool.now ≤ pool_bytes) × (length row.now ≤ row_words) }
     requires n_in_bounds { (from + n * 4 ≤ length row.now) × (base ≤ 16) }
-    ensures { 0 < result → Groups pool.now (Field.Name ∷ Field.OptionalThenZero ∷ []) (case pool.now) n (drop from row.now) base result }
+    ensures { IfSome result (λ r. Groups pool.now (Field.Name ∷ Field.OptionalThenZero ∷ []) (case pool.now) n (drop from row.now) base r) }
 {
     let mut at = from;
     let mut made = base;
-    let mut due = n;
-    while 0 < due {
-        let one = name_size(pool, row[at], row[at + 1]);
-        let two = optional_size(1, row[at + 2], row[at + 3]);
-        if one == 0 {
-            return 0;
-        }
-        if two == 0 {
-            return 0;
-        }
-        made += one + two + 1;
+    for _ in 0..n {
+        let label = name_size(pool, row[at], row[at + 1])?;
+        made += label + optional_size(1, row[at + 2], row[at + 3])? + 1;
         at += 4;
-        due -= 1;
     }
-    made
+    Some(made)
 }
 
 fn put_cases(row: &[u32], from: usize, n: usize, pool: &[u8], out: &mut [u8], base: usize)
@@ -175,30 +139,28 @@ fn put_cases(row: &[u32], from: usize, n: usize, pool: &[u8], out: &mut [u8], ba
 {
     let mut at = from;
     let mut to = base;
-    let mut due = n;
-    while 0 < due {
+    for _ in 0..n {
         to += stored_size(writing::put_name(pool, row[at], row[at + 1], to, out));
         to = put_optional(row[at + 2], row[at + 3], out, to);
         out[to] = 0x00;
         to += 1;
         at += 4;
-        due -= 1;
     }
 }
 
 // record
-pub fn record_size(row: &[u32], pool: &[u8]) -> usize
+pub fn record_size(row: &[u32], pool: &[u8]) -> Option<usize>
     requires { (length pool.now ≤ pool_bytes) × (length row.now ≤ row_words) }
-    ensures { 0 < result → measured_row (Is (many 0x72 Field.Name Field.Value)) row.now pool.now ≡ Size result }
+    ensures { IfSome result (λ r. measured_row (Some (many 0x72 Field.Name Field.Value)) row.now pool.now ≡ Ok r) }
 {
     if row.len() < 2 {
-        return 0;
+        return None;
     }
     let n = row[1] as usize;
-    if row.len() == 2 + n * 4 {
-        return fields_size(row, 2, n, pool, 1 + unsigned_size(row[1]));
+    if row.len() != 2 + n * 4 {
+        return None;
     }
-    0
+    fields_size(row, 2, n, pool, 1 + unsigned_size(row[1]))
 }
 
 pub fn put_record(row: &[u32], pool: &[u8], out: &mut [u8], to: usize)
@@ -213,18 +175,18 @@ pub fn put_record(row: &[u32], pool: &[u8], out: &mut [u8], to: usize)
 }
 
 // variant
-pub fn variant_size(row: &[u32], pool: &[u8]) -> usize
+pub fn variant_size(row: &[u32], pool: &[u8]) -> Option<usize>
     requires { (length pool.now ≤ pool_bytes) × (length row.now ≤ row_words) }
-    ensures { 0 < result → measured_row (Is (many 0x71 Field.Name Field.OptionalThenZero)) row.now pool.now ≡ Size result }
+    ensures { IfSome result (λ r. measured_row (Some (many 0x71 Field.Name Field.OptionalThenZero)) row.now pool.now ≡ Ok r) }
 {
     if row.len() < 2 {
-        return 0;
+        return None;
     }
     let n = row[1] as usize;
-    if row.len() == 2 + n * 4 {
-        return cases_size(row, 2, n, pool, 1 + unsigned_size(row[1]));
+    if row.len() != 2 + n * 4 {
+        return None;
     }
-    0
+    cases_size(row, 2, n, pool, 1 + unsigned_size(row[1]))
 }
 
 pub fn put_variant(row: &[u32], pool: &[u8], out: &mut [u8], to: usize)
@@ -239,18 +201,18 @@ pub fn put_variant(row: &[u32], pool: &[u8], out: &mut [u8], to: usize)
 }
 
 // tuple
-pub fn tuple_size(row: &[u32]) -> usize
+pub fn tuple_size(row: &[u32]) -> Option<usize>
     requires { length row.now ≤ row_words }
-    ensures { 0 < result → (pool : List ℕ) → length pool ≤ pool_bytes → measured_row (Is (many 0x6f Field.Value Field.Nothing)) row.now pool ≡ Size result }
+    ensures { IfSome result (λ r. (pool : List ℕ) → length pool ≤ pool_bytes → measured_row (Some (many 0x6f Field.Value Field.Nothing)) row.now pool ≡ Ok r) }
 {
     if row.len() < 2 {
-        return 0;
+        return None;
     }
     let n = row[1] as usize;
-    if row.len() == 2 + n * 2 {
-        return values_size(row, 2, n, 1 + unsigned_size(row[1]));
+    if row.len() != 2 + n * 2 {
+        return None;
     }
-    0
+    values_size(row, 2, n, 1 + unsigned_size(row[1]))
 }
 
 pub fn put_tuple(row: &[u32], out: &mut [u8], to: usize)
@@ -264,18 +226,18 @@ pub fn put_tuple(row: &[u32], out: &mut [u8], to: usize)
 }
 
 // flags, enum: labels.
-pub fn labels_row_size(row: &[u32], pool: &[u8]) -> usize
+pub fn labels_row_size(row: &[u32], pool: &[u8]) -> Option<usize>
     requires { (length pool.now ≤ pool_bytes) × (length row.now ≤ row_words) }
-    ensures { 0 < result → (lead : ℕ) → measured_row (Is (many lead Field.Name Field.Nothing)) row.now pool.now ≡ Size result }
+    ensures { IfSome result (λ r. (lead : ℕ) → measured_row (Some (many lead Field.Name Field.Nothing)) row.now pool.now ≡ Ok r) }
 {
     if row.len() < 2 {
-        return 0;
+        return None;
     }
     let n = row[1] as usize;
-    if row.len() == 2 + n * 2 {
-        return labels_size(row, 2, n, pool, 1 + unsigned_size(row[1]));
+    if row.len() != 2 + n * 2 {
+        return None;
     }
-    0
+    labels_size(row, 2, n, pool, 1 + unsigned_size(row[1]))
 }
 
 pub fn put_labels_row(lead: u8, row: &[u32], pool: &[u8], out: &mut [u8], to: usize)

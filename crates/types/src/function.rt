@@ -1,8 +1,8 @@
-// Functions in straight code: how many bytes a row makes, 0 where not all of it is seen to be right, and its bytes.
-ghost use Rattle.std.specs.Prelude.{◌<◌, ◌≤◌, ◌+◌, ◌*◌, ◌∷◌, [], ◌≡◌, length, drop};
+// Functions in straight code: how many bytes a row makes, if all of it is seen to be right, and its bytes.
+ghost use Rattle.std.specs.Prelude.{IfSome, ◌<◌, ◌≤◌, ◌+◌, ◌*◌, ◌∷◌, [], ◌≡◌, length, drop};
 ghost use Rattle.std.proofs.lemmas.List.Edits.{sets};
-ghost use Rattle.fields.specs.declared.Answer.TheVariants.{Size};
-ghost use Rattle.fields.specs.declared.Found.TheVariants.{Is};
+ghost use Rattle.std.specs.Prelude.{Ok};
+ghost use Rattle.std.specs.Prelude.{Some};
 ghost use Rattle.fields.specs.Words.{word};
 ghost use Rattle.writing.specs.Binary.{functype};
 ghost use Rattle.writing.specs.Row.{measured_row};
@@ -23,25 +23,23 @@ pub fn async_byte(a: u32) -> u8
 }
 
 // function: async or not, parameters and a result.
-pub fn function_size(row: &[u32], pool: &[u8]) -> usize
+pub fn function_size(row: &[u32], pool: &[u8]) -> Option<usize>
     requires { (length pool.now ≤ pool_bytes) × (length row.now ≤ row_words) }
-    ensures { 0 < result → measured_row (Is function_shape) row.now pool.now ≡ Size result }
+    ensures { IfSome result (λ r. measured_row (Some function_shape) row.now pool.now ≡ Ok r) }
 {
     if row.len() < 5 {
-        return 0;
+        return None;
     }
     if 1 < row[1] {
-        return 0;
+        return None;
     }
     let n = row[2] as usize;
     let last = 3 + n * 4;
-    if row.len() == last + 2 {
-        let result = optional_size(2, row[last], row[last + 1]);
-        if 0 < result {
-            return fields_size(row, 3, n, pool, 1 + unsigned_size(row[2]) + result);
-        }
+    if row.len() != last + 2 {
+        return None;
     }
-    0
+    let result = optional_size(2, row[last], row[last + 1])?;
+    fields_size(row, 3, n, pool, 1 + unsigned_size(row[2]) + result)
 }
 
 pub fn put_function(row: &[u32], pool: &[u8], out: &mut [u8], to: usize)

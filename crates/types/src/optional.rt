@@ -1,28 +1,24 @@
-// An O in straight code: its size, 0 where it is not right, and its bytes.
-ghost use Rattle.std.specs.Prelude.{◌<◌, ◌≤◌, ◌+◌, length};
+// An O in straight code: its size, if it is right, and its bytes.
+ghost use Rattle.std.specs.Prelude.{IfSome, ◌<◌, ◌≤◌, ◌+◌, length};
 ghost use Rattle.writing.specs.Binary.{optional, resultlist};
 ghost use Rattle.writing.specs.inside.Wrote.{Wrote};
 ghost use Rattle.types.specs.inside.Optional.{OptionalKnown};
 
 use numbers::stored_size;
 
-// How many bytes an O has, `none` where it is absent.
-pub fn optional_size(none: usize, tag: u32, x: u32) -> usize
-    requires { none ≤ 2 }
-    ensures optional_known { 0 < result → OptionalKnown none tag x result }
-    ensures upper_bound { result ≤ 6 }
+// How many bytes an O has, if it is right: `absent` where there is no V.
+pub fn optional_size(absent: usize, tag: u32, x: u32) -> Option<usize>
+    requires { absent ≤ 2 }
+    ensures optional_known { IfSome result (λ r. OptionalKnown absent tag x r) }
+    ensures upper_bound { IfSome result (λ r. r ≤ 6) }
 {
     if tag == 2 {
         if x == 0 {
-            return none;
+            return Some(absent);
         }
-        return 0;
+        return None;
     }
-    let size = writing::value_size(tag, x);
-    if 0 < size {
-        return 1 + size;
-    }
-    0
+    Some(1 + writing::value_size(tag, x)?)
 }
 
 // 00, or 01 and the V; the place past it.

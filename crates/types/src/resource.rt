@@ -1,8 +1,8 @@
 // resource: a representation and perhaps a destructor.
-ghost use Rattle.std.specs.Prelude.{ℕ, ◌<◌, ◌≤◌, ◌+◌, List, ◌∷◌, ◌≡◌, length};
+ghost use Rattle.std.specs.Prelude.{IfSome, ℕ, ◌<◌, ◌≤◌, ◌+◌, List, ◌∷◌, ◌≡◌, length};
 ghost use Rattle.std.proofs.lemmas.List.Edits.{sets};
-ghost use Rattle.fields.specs.declared.Answer.TheVariants.{Size};
-ghost use Rattle.fields.specs.declared.Found.TheVariants.{Is};
+ghost use Rattle.std.specs.Prelude.{Ok};
+ghost use Rattle.std.specs.Prelude.{Some};
 ghost use Rattle.fields.specs.Words.{word};
 ghost use Rattle.writing.specs.Binary.{representation, destructor};
 ghost use Rattle.writing.specs.Row.{measured_row};
@@ -12,23 +12,21 @@ ghost use Rattle.fields.specs.Limits.{pool_bytes};
 use fields::Field;
 use numbers::unsigned_size;
 
-// How many bytes a row makes, 0 where not all of it is seen to be right.
-pub fn resource_size(row: &[u32]) -> usize
-    ensures { 0 < result → (lead : ℕ) (pool : List ℕ) → length pool ≤ pool_bytes → measured_row (Is (two lead Field.Rep Field.OptionalIndex)) row.now pool ≡ Size result }
+// How many bytes a row makes, if all of it is seen to be right.
+pub fn resource_size(row: &[u32]) -> Option<usize>
+    ensures { IfSome result (λ r. (lead : ℕ) (pool : List ℕ) → length pool ≤ pool_bytes → measured_row (Some (two lead Field.Rep Field.OptionalIndex)) row.now pool ≡ Ok r) }
 {
-    if row.len() == 4 {
-        if row[1] < 2 {
-            if row[2] == 1 {
-                return 3 + unsigned_size(row[3]);
-            }
-            if row[2] == 0 {
-                if row[3] == 0 {
-                    return 3;
-                }
-            }
-        }
+    if row.len() != 4 {
+        return None;
     }
-    0
+    if 1 < row[1] {
+        return None;
+    }
+    match row[2] {
+        0 if row[3] == 0 => Some(3),
+        1 => Some(3 + unsigned_size(row[3])),
+        _ => None,
+    }
 }
 
 fn rep_byte(x: u32) -> u8
@@ -50,5 +48,5 @@ pub fn put_resource(lead: u8, row: &[u32], out: &mut [u8], to: usize)
         return;
     }
     out[to + 2] = 0x01;
-    numbers::put_unsigned(row[3], to + 3, out);
+    let _ = numbers::put_unsigned(row[3], to + 3, out);
 }

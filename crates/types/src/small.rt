@@ -1,10 +1,10 @@
-// Kinds without names and counts, but for resource, in straight code: how many bytes a row makes, 0 where not all of it is seen to be
-// right, and its bytes. Kinds with the same fields share both.
-ghost use Rattle.std.specs.Prelude.{ℕ, ◌<◌, ◌≤◌, ◌+◌, List, ◌∷◌, [], ◌++◌, ◌≡◌, length};
+// Kinds without names and counts, but for resource, in straight code: how many bytes a row makes, if all of it is seen
+// to be right, and its bytes. Kinds with the same fields share both.
+ghost use Rattle.std.specs.Prelude.{IfSome, ℕ, ◌<◌, ◌≤◌, ◌+◌, List, ◌∷◌, [], ◌++◌, ◌≡◌, length};
 ghost use Rattle.std.proofs.lemmas.List.Edits.{sets};
 ghost use Rattle.numbers.specs.Leb.{unsigned};
-ghost use Rattle.fields.specs.declared.Answer.TheVariants.{Size};
-ghost use Rattle.fields.specs.declared.Found.TheVariants.{Is};
+ghost use Rattle.std.specs.Prelude.{Ok};
+ghost use Rattle.std.specs.Prelude.{Some};
 ghost use Rattle.fields.specs.Words.{word};
 ghost use Rattle.writing.specs.Binary.{primvaltype, valtype, optional};
 ghost use Rattle.writing.specs.Row.{measured_row};
@@ -18,35 +18,33 @@ use numbers::{stored_size, unsigned_size};
 use writing::value_size;
 
 // primvaltype
-pub fn primitive_size(row: &[u32]) -> usize
-    ensures { 0 < result → (pool : List ℕ) → length pool ≤ pool_bytes → measured_row (Is (two_of Field.Nothing Field.Nothing Field.Primitive Field.Nothing)) row.now pool ≡ Size result }
+pub fn primitive_size(row: &[u32]) -> Option<usize>
+    ensures { IfSome result (λ r. (pool : List ℕ) → length pool ≤ pool_bytes → measured_row (Some (two_of Field.Nothing Field.Nothing Field.Primitive Field.Nothing)) row.now pool ≡ Ok r) }
 {
-    if row.len() == 2 {
-        if row[1] < 14 {
-            return 1;
-        }
+    if row.len() != 2 {
+        return None;
     }
-    0
+    if row[1] < 14 {
+        return Some(1);
+    }
+    None
 }
 
 pub fn put_primitive(row: &[u32], out: &mut [u8], to: usize)
     requires { (length row.now ≡ 2) × (to + 1 ≤ length out.old) }
     ensures { out.new ≡ sets out.old to (primvaltype (word row.now 1) ∷ []) }
 {
-    writing::put_value(0, row[1], to, out);
+    let _ = writing::put_value(0, row[1], to, out);
 }
 
 // list, option: a V.
-pub fn value_row_size(row: &[u32]) -> usize
-    ensures { 0 < result → (lead : ℕ) (pool : List ℕ) → length pool ≤ pool_bytes → measured_row (Is (two lead Field.Value Field.Nothing)) row.now pool ≡ Size result }
+pub fn value_row_size(row: &[u32]) -> Option<usize>
+    ensures { IfSome result (λ r. (lead : ℕ) (pool : List ℕ) → length pool ≤ pool_bytes → measured_row (Some (two lead Field.Value Field.Nothing)) row.now pool ≡ Ok r) }
 {
-    if row.len() == 3 {
-        let one = value_size(row[1], row[2]);
-        if 0 < one {
-            return 1 + one;
-        }
+    if row.len() != 3 {
+        return None;
     }
-    0
+    Some(1 + value_size(row[1], row[2])?)
 }
 
 pub fn put_value_row(lead: u8, row: &[u32], out: &mut [u8], to: usize)
@@ -55,23 +53,17 @@ pub fn put_value_row(lead: u8, row: &[u32], out: &mut [u8], to: usize)
     ensures { out.new ≡ sets out.old to (lead ∷ valtype (word row.now 1) (word row.now 2)) }
 {
     out[to] = lead;
-    writing::put_value(row[1], row[2], to + 1, out);
+    let _ = writing::put_value(row[1], row[2], to + 1, out);
 }
 
 // map: two V.
-pub fn values_row_size(row: &[u32]) -> usize
-    ensures { 0 < result → (lead : ℕ) (pool : List ℕ) → length pool ≤ pool_bytes → measured_row (Is (two lead Field.Value Field.Value)) row.now pool ≡ Size result }
+pub fn values_row_size(row: &[u32]) -> Option<usize>
+    ensures { IfSome result (λ r. (lead : ℕ) (pool : List ℕ) → length pool ≤ pool_bytes → measured_row (Some (two lead Field.Value Field.Value)) row.now pool ≡ Ok r) }
 {
-    if row.len() == 5 {
-        let one = value_size(row[1], row[2]);
-        let two = value_size(row[3], row[4]);
-        if 0 < one {
-            if 0 < two {
-                return 1 + one + two;
-            }
-        }
+    if row.len() != 5 {
+        return None;
     }
-    0
+    Some(1 + value_size(row[1], row[2])? + value_size(row[3], row[4])?)
 }
 
 pub fn put_values_row(lead: u8, row: &[u32], out: &mut [u8], to: usize)
@@ -81,20 +73,17 @@ pub fn put_values_row(lead: u8, row: &[u32], out: &mut [u8], to: usize)
 {
     out[to] = lead;
     let next = to + 1 + stored_size(writing::put_value(row[1], row[2], to + 1, out));
-    writing::put_value(row[3], row[4], next, out);
+    let _ = writing::put_value(row[3], row[4], next, out);
 }
 
 // list of fixed length: a V and a length.
-pub fn fixed_row_size(row: &[u32]) -> usize
-    ensures { 0 < result → (lead : ℕ) (pool : List ℕ) → length pool ≤ pool_bytes → measured_row (Is (two lead Field.Value Field.Index)) row.now pool ≡ Size result }
+pub fn fixed_row_size(row: &[u32]) -> Option<usize>
+    ensures { IfSome result (λ r. (lead : ℕ) (pool : List ℕ) → length pool ≤ pool_bytes → measured_row (Some (two lead Field.Value Field.Index)) row.now pool ≡ Ok r) }
 {
-    if row.len() == 4 {
-        let one = value_size(row[1], row[2]);
-        if 0 < one {
-            return 1 + one + unsigned_size(row[3]);
-        }
+    if row.len() != 4 {
+        return None;
     }
-    0
+    Some(1 + value_size(row[1], row[2])? + unsigned_size(row[3]))
 }
 
 pub fn put_fixed_row(lead: u8, row: &[u32], out: &mut [u8], to: usize)
@@ -104,23 +93,17 @@ pub fn put_fixed_row(lead: u8, row: &[u32], out: &mut [u8], to: usize)
 {
     out[to] = lead;
     let next = to + 1 + stored_size(writing::put_value(row[1], row[2], to + 1, out));
-    numbers::put_unsigned(row[3], next, out);
+    let _ = numbers::put_unsigned(row[3], next, out);
 }
 
 // result: two O.
-pub fn optionals_row_size(row: &[u32]) -> usize
-    ensures { 0 < result → (lead : ℕ) (pool : List ℕ) → length pool ≤ pool_bytes → measured_row (Is (two lead Field.Optional Field.Optional)) row.now pool ≡ Size result }
+pub fn optionals_row_size(row: &[u32]) -> Option<usize>
+    ensures { IfSome result (λ r. (lead : ℕ) (pool : List ℕ) → length pool ≤ pool_bytes → measured_row (Some (two lead Field.Optional Field.Optional)) row.now pool ≡ Ok r) }
 {
-    if row.len() == 5 {
-        let one = optional_size(1, row[1], row[2]);
-        let two = optional_size(1, row[3], row[4]);
-        if 0 < one {
-            if 0 < two {
-                return 1 + one + two;
-            }
-        }
+    if row.len() != 5 {
+        return None;
     }
-    0
+    Some(1 + optional_size(1, row[1], row[2])? + optional_size(1, row[3], row[4])?)
 }
 
 pub fn put_optionals_row(lead: u8, row: &[u32], out: &mut [u8], to: usize)
@@ -134,13 +117,13 @@ pub fn put_optionals_row(lead: u8, row: &[u32], out: &mut [u8], to: usize)
 }
 
 // own, borrow: an index.
-pub fn index_row_size(row: &[u32]) -> usize
-    ensures { 0 < result → (lead : ℕ) (pool : List ℕ) → length pool ≤ pool_bytes → measured_row (Is (two lead Field.Index Field.Nothing)) row.now pool ≡ Size result }
+pub fn index_row_size(row: &[u32]) -> Option<usize>
+    ensures { IfSome result (λ r. (lead : ℕ) (pool : List ℕ) → length pool ≤ pool_bytes → measured_row (Some (two lead Field.Index Field.Nothing)) row.now pool ≡ Ok r) }
 {
-    if row.len() == 2 {
-        return 1 + unsigned_size(row[1]);
+    if row.len() != 2 {
+        return None;
     }
-    0
+    Some(1 + unsigned_size(row[1]))
 }
 
 pub fn put_index_row(lead: u8, row: &[u32], out: &mut [u8], to: usize)
@@ -149,20 +132,17 @@ pub fn put_index_row(lead: u8, row: &[u32], out: &mut [u8], to: usize)
     ensures { out.new ≡ sets out.old to (lead ∷ unsigned (word row.now 1)) }
 {
     out[to] = lead;
-    numbers::put_unsigned(row[1], to + 1, out);
+    let _ = numbers::put_unsigned(row[1], to + 1, out);
 }
 
 // future, stream: an O.
-pub fn optional_row_size(row: &[u32]) -> usize
-    ensures { 0 < result → (lead : ℕ) (pool : List ℕ) → length pool ≤ pool_bytes → measured_row (Is (two lead Field.Optional Field.Nothing)) row.now pool ≡ Size result }
+pub fn optional_row_size(row: &[u32]) -> Option<usize>
+    ensures { IfSome result (λ r. (lead : ℕ) (pool : List ℕ) → length pool ≤ pool_bytes → measured_row (Some (two lead Field.Optional Field.Nothing)) row.now pool ≡ Ok r) }
 {
-    if row.len() == 3 {
-        let one = optional_size(1, row[1], row[2]);
-        if 0 < one {
-            return 1 + one;
-        }
+    if row.len() != 3 {
+        return None;
     }
-    0
+    Some(1 + optional_size(1, row[1], row[2])?)
 }
 
 pub fn put_optional_row(lead: u8, row: &[u32], out: &mut [u8], to: usize)

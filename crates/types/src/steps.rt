@@ -1,5 +1,5 @@
 // The parts of an open function, each written by a step: the head, which is the first byte and the parameters, and the result.
-ghost use Rattle.std.specs.Prelude.{◌<◌, ◌≤◌, ◌+◌, ◌*◌, ◌∷◌, [], ◌≡◌, length, drop};
+ghost use Rattle.std.specs.Prelude.{IfSome, Ok, ◌<◌, ◌≤◌, ◌+◌, ◌*◌, ◌∷◌, [], ◌≡◌, length, drop};
 ghost use Rattle.std.proofs.lemmas.List.Edits.{sets};
 ghost use Rattle.fields.specs.Words.{word};
 ghost use Rattle.fields.specs.Shape.{repeated};
@@ -12,7 +12,7 @@ ghost use Rattle.writing.specs.inside.Rows.{Rights};
 use crate::counted::{fields_size, put_fields};
 use crate::function::async_byte;
 use crate::optional::{optional_size, put_result};
-use fields::{Answer, Field, POOL_BYTES, ROW_WORDS, Refusal, Shape};
+use fields::{Answer, Fault, Field, POOL_BYTES, ROW_WORDS, Refusal, Shape};
 use numbers::{stored_size, unsigned_size};
 
 fn head_shape() -> Shape
@@ -30,27 +30,27 @@ fn head_shape() -> Shape
     }
 }
 
-// How many bytes a head has; 0 where not all of it is seen to be right.
-fn head_size(words: &[u32], pool: &[u8]) -> usize
-    ensures { 0 < result → measured head_shape words.now 0 pool.now ≡ Answer.Size result }
+// How many bytes a head has, if all of it is seen to be right.
+fn head_size(words: &[u32], pool: &[u8]) -> Option<usize>
+    ensures { IfSome result (λ r. measured head_shape words.now 0 pool.now ≡ Ok r) }
 {
     if POOL_BYTES < pool.len() {
-        return 0;
+        return None;
     }
     if ROW_WORDS < words.len() {
-        return 0;
+        return None;
     }
     if words.len() < 2 {
-        return 0;
+        return None;
     }
     if 1 < words[0] {
-        return 0;
+        return None;
     }
     let n = words[1] as usize;
-    if words.len() == 2 + n * 4 {
-        return fields_size(words, 2, n, pool, 1 + unsigned_size(words[1]));
+    if words.len() != 2 + n * 4 {
+        return None;
     }
-    0
+    fields_size(words, 2, n, pool, 1 + unsigned_size(words[1]))
 }
 
 fn put_head(words: &[u32], pool: &[u8], out: &mut [u8], at: usize)
@@ -68,9 +68,8 @@ fn put_head(words: &[u32], pool: &[u8], out: &mut [u8], at: usize)
 fn measure_head(words: &[u32], pool: &[u8]) -> Answer
     ensures { result ≡ measured head_shape words.now 0 pool.now }
 {
-    let size = head_size(words, pool);
-    if 0 < size {
-        return Answer::Size(size);
+    if let Some(size) = head_size(words, pool) {
+        return Ok(size);
     }
     writing::measure_shape(head_shape(), words, 0, pool)
 }
@@ -79,16 +78,15 @@ fn measure_head(words: &[u32], pool: &[u8]) -> Answer
 pub fn write_head(words: &[u32], pool: &[u8], out: &mut [u8], at: usize) -> Answer
     ensures { left result out.new ≡ write_shape head_shape words.now 0 pool.now out.old at }
 {
-    match measure_head(words, pool) {
-        Answer::Size(size) => {
-            if writing::fits(size, at, out.len()) {
-                put_head(words, pool, out, at);
-                return Answer::Size(size);
-            }
-            Answer::Refused(Refusal::Room, size)
-        }
-        Answer::Refused(why, value) => Answer::Refused(why, value),
+    let size = measure_head(words, pool)?;
+    if writing::fits(size, at, out.len()) {
+        put_head(words, pool, out, at);
+        return Ok(size);
     }
+    Err(Fault {
+        why: Refusal::Room,
+        value: size,
+    })
 }
 
 fn result_shape() -> Shape
@@ -109,9 +107,8 @@ fn result_shape() -> Shape
 fn measure_result(tag: u32, x: u32) -> Answer
     ensures { result ≡ measured result_shape (tag ∷ x ∷ []) 0 [] }
 {
-    let size = optional_size(2, tag, x);
-    if 0 < size {
-        return Answer::Size(size);
+    if let Some(size) = optional_size(2, tag, x) {
+        return Ok(size);
     }
     let words = [tag, x];
     let pool = [0u8; 1];
@@ -122,14 +119,13 @@ fn measure_result(tag: u32, x: u32) -> Answer
 pub fn write_result(tag: u32, x: u32, out: &mut [u8], at: usize) -> Answer
     ensures { left result out.new ≡ write_shape result_shape (tag ∷ x ∷ []) 0 [] out.old at }
 {
-    match measure_result(tag, x) {
-        Answer::Size(size) => {
-            if writing::fits(size, at, out.len()) {
-                put_result(tag, x, out, at);
-                return Answer::Size(size);
-            }
-            Answer::Refused(Refusal::Room, size)
-        }
-        Answer::Refused(why, value) => Answer::Refused(why, value),
+    let size = measure_result(tag, x)?;
+    if writing::fits(size, at, out.len()) {
+        put_result(tag, x, out, at);
+        return Ok(size);
     }
+    Err(Fault {
+        why: Refusal::Room,
+        value: size,
+    })
 }

@@ -1,7 +1,7 @@
-// Straight code by kind: an arm a kind, with the component binary document's names.
-ghost use Rattle.std.specs.Prelude.{◌<◌, ◌≡◌, length};
+// Straight code by kind: an arm a kind, with the component binary document's names. Kinds are numbers, as in the rows that C hands over.
+ghost use Rattle.std.specs.Prelude.{IfSome, ◌<◌, ◌≡◌, length};
 ghost use Rattle.std.proofs.lemmas.List.Edits.{sets};
-ghost use Rattle.fields.specs.declared.Answer.TheVariants.{Size};
+ghost use Rattle.std.specs.Prelude.{Ok};
 ghost use Rattle.fields.specs.Words.{word};
 ghost use Rattle.writing.specs.Row.{measured_row, row_bytes};
 ghost use Rattle.types.specs.Write.{shape_of};
@@ -11,15 +11,15 @@ use crate::{counted, function, resource, small};
 use fields::{POOL_BYTES, ROW_WORDS};
 use writing::fits;
 
-// How many bytes a row makes, 0 where not all of it is seen to be right.
-pub fn row_size(row: &[u32], pool: &[u8]) -> usize
-    ensures { 0 < result → measured_row (shape_of (word row.now 0)) row.now pool.now ≡ Size result }
+// How many bytes a row makes, if all of it is seen to be right.
+pub fn row_size(row: &[u32], pool: &[u8]) -> Option<usize>
+    ensures { IfSome result (λ r. measured_row (shape_of (word row.now 0)) row.now pool.now ≡ Ok r) }
 {
     if ROW_WORDS < row.len() {
-        return 0;
+        return None;
     }
     if POOL_BYTES < pool.len() {
-        return 0;
+        return None;
     }
     match fields::kind_of(row) {
         // a primitive
@@ -56,7 +56,7 @@ pub fn row_size(row: &[u32], pool: &[u8]) -> usize
         15 => function::function_size(row, pool),
         // resource
         16 => resource::resource_size(row),
-        _ => 0,
+        _ => None,
     }
 }
 
@@ -104,103 +104,103 @@ pub fn put_row(row: &[u32], pool: &[u8], out: &mut [u8], to: usize)
     }
 }
 
-// A row of a kind without names and counts, both passes in the kind's own arm; its size, or 0 where nothing was done.
-pub fn write_small(row: &[u32], pool: &[u8], out: &mut [u8], at: usize) -> usize
+// A row of a kind without names and counts, both passes in the kind's own arm, which is faster than asking for the kind twice; its size, if it was done.
+pub fn write_small(row: &[u32], pool: &[u8], out: &mut [u8], at: usize) -> Option<usize>
     ensures { Tried (shape_of (word row.now 0)) row.now pool.now out.old at result out.new }
 {
     if POOL_BYTES < pool.len() {
-        return 0;
+        return None;
     }
     match fields::kind_of(row) {
         // a primitive
         0 => {
-            let size = small::primitive_size(row);
+            let size = small::primitive_size(row)?;
             if fits(size, at, out.len()) {
                 small::put_primitive(row, out, at);
-                return size;
+                return Some(size);
             }
         }
         // list
         3 => {
-            let size = small::value_row_size(row);
+            let size = small::value_row_size(row)?;
             if fits(size, at, out.len()) {
                 small::put_value_row(0x70, row, out, at);
-                return size;
+                return Some(size);
             }
         }
         // map
         4 => {
-            let size = small::values_row_size(row);
+            let size = small::values_row_size(row)?;
             if fits(size, at, out.len()) {
                 small::put_values_row(0x63, row, out, at);
-                return size;
+                return Some(size);
             }
         }
         // list of fixed length
         5 => {
-            let size = small::fixed_row_size(row);
+            let size = small::fixed_row_size(row)?;
             if fits(size, at, out.len()) {
                 small::put_fixed_row(0x67, row, out, at);
-                return size;
+                return Some(size);
             }
         }
         // option
         9 => {
-            let size = small::value_row_size(row);
+            let size = small::value_row_size(row)?;
             if fits(size, at, out.len()) {
                 small::put_value_row(0x6b, row, out, at);
-                return size;
+                return Some(size);
             }
         }
         // result
         10 => {
-            let size = small::optionals_row_size(row);
+            let size = small::optionals_row_size(row)?;
             if fits(size, at, out.len()) {
                 small::put_optionals_row(0x6a, row, out, at);
-                return size;
+                return Some(size);
             }
         }
         // own
         11 => {
-            let size = small::index_row_size(row);
+            let size = small::index_row_size(row)?;
             if fits(size, at, out.len()) {
                 small::put_index_row(0x69, row, out, at);
-                return size;
+                return Some(size);
             }
         }
         // borrow
         12 => {
-            let size = small::index_row_size(row);
+            let size = small::index_row_size(row)?;
             if fits(size, at, out.len()) {
                 small::put_index_row(0x68, row, out, at);
-                return size;
+                return Some(size);
             }
         }
         // future
         13 => {
-            let size = small::optional_row_size(row);
+            let size = small::optional_row_size(row)?;
             if fits(size, at, out.len()) {
                 small::put_optional_row(0x65, row, out, at);
-                return size;
+                return Some(size);
             }
         }
         // stream
         14 => {
-            let size = small::optional_row_size(row);
+            let size = small::optional_row_size(row)?;
             if fits(size, at, out.len()) {
                 small::put_optional_row(0x66, row, out, at);
-                return size;
+                return Some(size);
             }
         }
         // resource
         16 => {
-            let size = resource::resource_size(row);
+            let size = resource::resource_size(row)?;
             if fits(size, at, out.len()) {
                 resource::put_resource(0x3f, row, out, at);
-                return size;
+                return Some(size);
             }
         }
         _ => {}
     }
-    0
+    None
 }

@@ -13,7 +13,7 @@ use Rattle.numbers.specs.Leb.{unsigned, signed}
 use Rattle.numbers.proofs.LebLaws.{put-bytes}
 use Rattle.fields.specs.declared.Field.{Field}
 use Rattle.fields.specs.declared.Field.TheVariants as field
-use Rattle.fields.specs.declared.Flaw.TheVariants.{Right}
+use Rattle.fields.specs.Flaw.{Right}
 use Rattle.fields.specs.Words.{word, Words, indexed}
 use Rattle.writing.specs.Binary.{name, primvaltype, valtype, optional, resultlist, functype, flag, representation, destructor, canonopt, slot_at, slots_at, slots, externname, typebound, externdesc, bytes, argument, coresortidx, sortidx}
 use Rattle.writing.specs.Judge.{flaw}

@@ -1,4 +1,5 @@
 -- Elements of two fields in the loops over a count: an element that is seen, and one that is put, its first field before its second.
+use Rattle.std.specs.Prelude.{Some, None, IfSome, Option}
 use Prim.Native.Nat.{ℕ, ◌+◌, ◌-◌, ◌≤◌, ◌<◌}
 use native.Mathlib.Omega.{arith}
 use mathlib.Core.Path.{◌≡◌, refl, sym, ap, ◌∙◌, subst}
@@ -9,10 +10,10 @@ use Rattle.numbers.specs.Bytes as stored
 use Rattle.numbers.specs.Bytes.{store, part_of}
 use Rattle.numbers.specs.Leb.{unsigned}
 use Rattle.numbers.specs.Numbers.{value_of}
-use Rattle.numbers.specs.declared.bytes.Stored.{Stored}
+use Rattle.numbers.specs.Stored.{Stored}
 use Rattle.fields.specs.declared.Field.{Field}
 use Rattle.fields.specs.declared.Field.TheVariants as field
-use Rattle.fields.specs.declared.Flaw.TheVariants.{Right}
+use Rattle.fields.specs.Flaw.{Right}
 use Rattle.fields.specs.Words.{word, wide}
 use Rattle.fields.specs.Shape.{widths}
 use Rattle.fields.specs.Table.{elements}
@@ -63,12 +64,12 @@ module _ (f g : Field) (pool : List ℕ) {element : List ℕ → List ℕ} (same
 
 -- a name of a small pool has few bytes
 pub name_at-small : (pool row : List ℕ) (at : ℕ) {one : ℕ} → length pool ≤ 65536
-    → one ≡ right_size pool field.Name (word row at ∷ word row (at + 1) ∷ []) → one ≤ 65541
-name_at-small pool row at small e = omega (arith, e, name_small pool (word row at) (word row (at + 1)) small)
+    → Some one ≡ right_size pool field.Name (word row at ∷ word row (at + 1) ∷ []) → one ≤ 65541
+name_at-small pool row at small e = subst (λ o. IfSome o (λ r. r ≤ 65541)) (sym e) (name_small pool (word row at) (word row (at + 1)) small)
 
-pub name_at-known : (pool row : List ℕ) (at : ℕ) {one : ℕ} → one ≡ right_size pool field.Name (word row at ∷ word row (at + 1) ∷ []) → 0 < one
+pub name_at-known : (pool row : List ℕ) (at : ℕ) {one : ℕ} → Some one ≡ right_size pool field.Name (word row at ∷ word row (at + 1) ∷ [])
     → Known pool field.Name (drop at row) one
-name_at-known pool row at e p = name_at_lem pool row at refl refl (known_of e p)
+name_at-known pool row at e = name_at_lem pool row at refl refl (known_of e)
 
 -- ---- an element that is put
 

@@ -1,4 +1,7 @@
 -- An extern name in straight code: its size by the tests of its words, and what is stored of it.
+use Rattle.std.specs.Prelude.{Some, None, IfSome, Option, is_some}
+use Rattle.std.specs.Prelude.{Ok}
+use Rattle.std.specs.Prelude.{Err}
 use Prim.Native.Nat.{ℕ, suc, ◌+◌, ◌-◌, ◌≤◌, ◌<◌}
 use native.Mathlib.Omega.{arith}
 use mathlib.Core.Path.{◌≡◌, refl, sym, ap, ◌∙◌}
@@ -12,13 +15,13 @@ use Rattle.numbers.specs.Bytes.{Left, left, store, part_of}
 use Rattle.numbers.specs.Leb.{unsigned}
 use Rattle.numbers.specs.Numbers.{value_of}
 use Rattle.numbers.specs.Text.{text}
-use Rattle.numbers.specs.declared.bytes.Stored.{Stored}
-use Rattle.numbers.specs.declared.bytes.Stored.TheVariants.{Size, Room}
+use Rattle.numbers.specs.Stored.{Stored}
+use Rattle.numbers.specs.Stored.{Room}
 use Rattle.numbers.proofs.BytesLaws.{store-fits, store-room, to_end}
 use Rattle.numbers.proofs.LebLaws.{size_bounds}
 use Rattle.fields.specs.declared.Field.TheVariants as field
-use Rattle.fields.specs.declared.Flaw.{Flaw}
-use Rattle.fields.specs.declared.Flaw.TheVariants.{Right, Wrong}
+use Rattle.fields.specs.Flaw.{Flaw}
+use Rattle.fields.specs.Flaw.{Right, Wrong}
 use Rattle.fields.specs.declared.Refusal.{Refusal}
 use Rattle.fields.specs.declared.Refusal.TheVariants as refusal
 use Rattle.fields.specs.Words.{word, chars, wide}
@@ -43,19 +46,18 @@ unfolding name
 name-some pool s n = omega (arith, length-append (unsigned n) (chars pool s n), size_bounds 128 n)
 
 -- and at most five more than its length
-pub name-most : (pool : List ℕ) (s n : ℕ) → right_size pool field.Name (s ∷ n ∷ []) ≤ 5 + n
+pub name-most : (pool : List ℕ) (s n : ℕ) → IfSome (right_size pool field.Name (s ∷ n ∷ [])) (λ r. r ≤ 5 + n)
 unfolding right_size bytes flaw
 name-most pool s n = go (flaw pool field.Name (s ∷ n ∷ [])) refl
   where
-    go : (x : Flaw) → flaw pool field.Name (s ∷ n ∷ []) ≡ x → size_if x (length (bytes pool field.Name (s ∷ n ∷ []))) ≤ 5 + n
+    go : (x : Flaw) → flaw pool field.Name (s ∷ n ∷ []) ≡ x → IfSome (size_if x (length (bytes pool field.Name (s ∷ n ∷ [])))) (λ r. r ≤ 5 + n)
     go Right e = omega (arith, inside-length pool s n (name-inside pool (s ∷ n ∷ []) 0 e), size_bounds 128 n)
-    go (Wrong w j) e = omega arith
+    go (Err fault) e = tt
 
 -- the same bytes, with a lead
-led_size : (x : Flaw) (n : ℕ) {one : ℕ} → 1 ≤ n → one ≡ size_if x n
-    → (0 < one → 1 + one ≡ size_if x (suc n)) × (one ≤ 0 → 0 ≡ size_if x (suc n))
-led_size Right n h e = (λ p. omega arith, λ p. absurd (omega arith))
-led_size (Wrong w j) n h e = (λ p. absurd (omega arith), λ p. refl)
+led_size : (x : Flaw) (n : ℕ) → ((one : ℕ) → Some one ≡ size_if x n → Some (1 + one) ≡ size_if x (suc n)) × (None ≡ size_if x n → None ≡ size_if x (suc n))
+led_size Right n = (λ one e. let q : one ≡ n = cc in ap Some (omega arith), λ e. impossible cc)
+led_size (Err fault) n = (λ one e. impossible cc, λ e. refl)
 
 -- ---- whether it is right, without a place
 
@@ -65,19 +67,19 @@ right_if false w j = refl
 
 right_both : (x y : Flaw) → is_right (then x y) ≡ cond (is_right x) (is_right y) false
 right_both Right y = refl
-right_both (Wrong w j) y = refl
+right_both (Err fault) y = refl
 
 right_is : (x : Flaw) → is_right x ≡ true → x ≡ Right
 right_is Right e = refl
-right_is (Wrong w j) e = impossible cc
+right_is (Err fault) e = impossible cc
 
-wrong_none : (x : Flaw) (n : ℕ) → is_right x ≡ false → 0 ≡ size_if x n
+wrong_none : (x : Flaw) (n : ℕ) → is_right x ≡ false → None ≡ size_if x n
 wrong_none Right n e = impossible cc
-wrong_none (Wrong w j) n e = refl
+wrong_none (Err fault) n e = refl
 
-some_right : (x : Flaw) (n : ℕ) → 1 ≤ n → ltb 0 (size_if x n) ≡ is_right x
-some_right Right n h = lt-ltb 0 n h
-some_right (Wrong w j) n h = refl
+some_right : (x : Flaw) (n : ℕ) → is_some (size_if x n) ≡ is_right x
+some_right Right n = refl
+some_right (Err fault) n = refl
 
 named_right : (pool ws : List ℕ) (k : ℕ)
     → is_right (named pool ws k) ≡ cond (leb (word ws k + word ws (k + 1)) (length pool)) (text (chars pool (word ws k) (word ws (k + 1)))) false
@@ -91,11 +93,11 @@ named_right pool ws k =
     go false b w = refl
 
 -- a name that has a size is right
-pub name_test : (pool ws : List ℕ) (k : ℕ) {s n one : ℕ} → s ≡ word ws k → n ≡ word ws (k + 1) → one ≡ right_size pool field.Name (s ∷ n ∷ [])
-    → ltb 0 one ≡ is_right (named pool ws k)
+pub name_test : (pool ws : List ℕ) (k : ℕ) {s n : ℕ} {r : Option ℕ} → s ≡ word ws k → n ≡ word ws (k + 1) → r ≡ right_size pool field.Name (s ∷ n ∷ [])
+    → is_some r ≡ is_right (named pool ws k)
 unfolding right_size flaw bytes
 name_test pool ws k {s} {n} es en eo =
-    ap (ltb 0) eo ∙ some_right (named pool (s ∷ n ∷ []) 0) _ (name-some pool s n) ∙ named_right pool (s ∷ n ∷ []) 0
+    ap is_some eo ∙ some_right (named pool (s ∷ n ∷ []) 0) _ ∙ named_right pool (s ∷ n ∷ []) 0
     ∙ (λ i. cond (leb (es i + en i) (length pool)) (text (chars pool (es i) (en i))) false) ∙ sym (named_right pool ws k)
 
 -- an option: absent, and its other words unused; present, and its name right; neither
@@ -106,8 +108,8 @@ module _ (pool ws : List ℕ) (i : ℕ) {p : ℕ} (ep : p ≡ word ws i) where
   absent_test z es en =
       simp (eq-eqb _ _ (sym ep ∙ z), right_both (unused ws (i + 1)) (unused ws (i + 2)), right_if, es, en)
 
-  pub present_test : p ≡ 1 → {s n one : ℕ} → s ≡ word ws (i + 1) → n ≡ word ws (i + 2) → one ≡ right_size pool field.Name (s ∷ n ∷ [])
-      → ltb 0 one ≡ is_right (optional_name pool ws i)
+  pub present_test : p ≡ 1 → {s n : ℕ} {r : Option ℕ} → s ≡ word ws (i + 1) → n ≡ word ws (i + 2) → r ≡ right_size pool field.Name (s ∷ n ∷ [])
+      → is_some r ≡ is_right (optional_name pool ws i)
   unfolding optional_name
   present_test z es en eo =
       let next : i + 2 ≡ i + 1 + 1 = omega arith in
@@ -182,31 +184,33 @@ module _ (pool ws : List ℕ) where
 
   -- ---- its size: without options that of the name and a lead; else by its flaw
 
-  pub plain_size : option_words ws ≡ 0 → {s n one : ℕ} → s ≡ word ws 0 → n ≡ word ws 1 → one ≡ right_size pool field.Name (s ∷ n ∷ [])
-      → (0 < one → 1 + one ≡ right_size pool field.ExternName ws) × (one ≤ 0 → 0 ≡ right_size pool field.ExternName ws)
+  pub plain_size : option_words ws ≡ 0 → {s n : ℕ} → s ≡ word ws 0 → n ≡ word ws 1
+      → ((one : ℕ) → Some one ≡ right_size pool field.Name (s ∷ n ∷ []) → Some (1 + one) ≡ right_size pool field.ExternName ws)
+      × (None ≡ right_size pool field.Name (s ∷ n ∷ []) → None ≡ right_size pool field.ExternName ws)
   unfolding right_size flaw named bytes
-  plain_size e {s} {n} es en eo =
+  plain_size e {s} {n} es en =
       let whole : right_size pool field.ExternName ws ≡ size_if (named pool ws 0) (suc (length (name pool (word ws 0) (word ws 1)))) =
       (λ i. size_if (plain-flaw pool ws e i) (length (plain_bytes (sym (slots_absent e)) refl refl refl i))) in
-      let p = led_size (named pool ws 0) _ (name-some pool (word ws 0) (word ws 1))
-      (eo ∙ (λ i. right_size pool field.Name (es i ∷ en i ∷ []))) in
-      (λ h. p.0 h ∙ sym whole, λ h. p.1 h ∙ sym whole)
+      let p = led_size (named pool ws 0) (length (name pool (word ws 0) (word ws 1))) in
+      let same : right_size pool field.Name (s ∷ n ∷ []) ≡ right_size pool field.Name (word ws 0 ∷ word ws 1 ∷ []) =
+      (λ i. right_size pool field.Name (es i ∷ en i ∷ [])) in
+      (λ one h. p.0 one (h ∙ same) ∙ sym whole, λ h. p.1 (h ∙ same) ∙ sym whole)
 
-  pub right_size_lem : is_right (flaw pool field.ExternName ws) ≡ true → {r : ℕ} → r ≡ extern_size ws → r ≡ right_size pool field.ExternName ws
+  pub right_size_lem : is_right (flaw pool field.ExternName ws) ≡ true → {r : ℕ} → r ≡ extern_size ws → Some r ≡ right_size pool field.ExternName ws
   unfolding right_size size
-  right_size_lem t er = let e = right_is (flaw pool field.ExternName ws) t in er ∙ sym (rw e (size-right pool field.ExternName ws e))
+  right_size_lem t er = let e = right_is (flaw pool field.ExternName ws) t in ap Some er ∙ sym (rw e (ap Some (size-right pool field.ExternName ws e)))
 
-  pub wrong_size : is_right (flaw pool field.ExternName ws) ≡ false → 0 ≡ right_size pool field.ExternName ws
+  pub wrong_size : is_right (flaw pool field.ExternName ws) ≡ false → None ≡ right_size pool field.ExternName ws
   unfolding right_size
   wrong_size e = wrong_none (flaw pool field.ExternName ws) _ e
 
-  pub extern_bound : length pool ≤ 65536 → right_size pool field.ExternName ws ≤ 360471
+  pub extern_bound : length pool ≤ 65536 → IfSome (right_size pool field.ExternName ws) (λ r. r ≤ 360471)
   unfolding right_size wide
   extern_bound few = go (flaw pool field.ExternName ws) refl
     where
-      go : (x : Flaw) → flaw pool field.ExternName ws ≡ x → size_if x (length (bytes pool field.ExternName ws)) ≤ 360471
+      go : (x : Flaw) → flaw pool field.ExternName ws ≡ x → IfSome (size_if x (length (bytes pool field.ExternName ws))) (λ r. r ≤ 360471)
       go Right e = field_bound pool field.ExternName ws few e
-      go (Wrong w j) e = omega arith
+      go (Err fault) e = tt
 
   -- ---- its names end within the pool
 
@@ -278,14 +282,14 @@ module _ (pool ws : List ℕ) where
         (inside_is e, omega (arith, f.1, ap length (part_name e)))
 
     pub put_stored : within all at (length old) ≡ true → {next : ℕ} {new : List ℕ} → Wrote old at (externname pool ws) next new
-        → left (Size all) new ≡ store (extern_part pool ws) at old
+        → left (Ok all) new ≡ store (extern_part pool ws) at old
     put_stored t {next} {new} w =
         let f = within-fits all at (length old) t in
         let e = some_inside (omega (arith, f.0)) in
-        (λ i. left (Size (ea i)) ((w.content ∙ ap (λ l. sets old at l) (sym (part_name e))) i))
+        (λ i. left (Ok (ea i)) ((w.content ∙ ap (λ l. sets old at l) (sym (part_name e))) i))
         ∙ sym (store-fits (extern_part pool ws) at old (omega (arith, f.1)))
 
-    pub put_nothing_lem : all ≡ 0 → at ≤ length old → left (Size 0) old ≡ store (extern_part pool ws) at old
+    pub put_nothing_lem : all ≡ 0 → at ≤ length old → left (Ok 0) old ≡ store (extern_part pool ws) at old
     put_nothing_lem z h = rw (no_bytes (extern_part pool ws) (sym ea ∙ z)) (sym (store-fits [] at old (omega arith)))
 
     pub put_past : all ≡ 0 → length old < at → left (Room all) old ≡ store (extern_part pool ws) at old
@@ -302,9 +306,9 @@ module _ (pool ws : List ℕ) where
 -- ---- an extern name whose words stand at a place of a row
 
 module _ (pool row : List ℕ) (at : ℕ) where
-  pub extern_known : {r : ℕ} → r ≡ right_size pool field.ExternName (take (length row - at) (drop at row)) → 0 < r
+  pub extern_known : {r : ℕ} → Some r ≡ right_size pool field.ExternName (take (length row - at) (drop at row))
       → Known pool field.ExternName (drop at row) r
-  extern_known e h = known_of (e ∙ ap (λ l. right_size pool field.ExternName l) (to_end row at)) h
+  extern_known e = known_of (e ∙ ap (λ l. right_size pool field.ExternName l) (to_end row at))
 
   pub extern_wrote : flaw pool field.ExternName (drop at row) ≡ Right
       → {old new : List ℕ} {to s : ℕ} {q : Stored} → left q new ≡ store (extern_part pool (take (length row - at) (drop at row))) to old
@@ -329,7 +333,7 @@ module _ (pool : List ℕ) (s n : ℕ) where
   pub bare_stored : s + n ≤ length pool → (at : ℕ) (old : List ℕ) → at + (1 + length (unsigned n) + n) ≤ length old
       → {r q : Stored} {mid new : List ℕ} → left r mid ≡ store (unsigned n) (at + 1) (set old at 0x00)
       → left q new ≡ store (part_of pool s n) (at + (1 + length (unsigned n))) mid
-      → (left (Size (1 + length (unsigned n) + n)) new ≡ store (extern_part pool (s ∷ n ∷ [])) at old) × (length new ≡ length old)
+      → (left (Ok (1 + length (unsigned n) + n)) new ≡ store (extern_part pool (s ∷ n ∷ [])) at old) × (length new ≡ length old)
   bare_stored h at old room {q = q} {mid = mid} {new = new} e d =
       let a : List ℕ = 0x00 ∷ unsigned n in
       let b = part_of pool s n in
@@ -337,11 +341,11 @@ module _ (pool : List ℕ) (s n : ℕ) where
       let size : length b ≡ n = part_length pool s n h in
       let all : length (a ++ b) ≡ length a + n = length-append a b ∙ ap (λ k. length a + k) size in
       let one : mid ≡ sets old at a = group.byte_then old at 0x00 (unsigned n) {all = a} refl (omega arith) e in
-      let first : left (Size (length a)) mid ≡ store a at old = ap (λ l. left (Size (length a)) l) one ∙ sym (store-fits a at old (omega arith)) in
+      let first : left (Ok (length a)) mid ≡ store a at old = ap (λ l. left (Ok (length a)) l) one ∙ sym (store-fits a at old (omega arith)) in
       let behind : left q new ≡ store b (at + length a) mid = d ∙ ap (λ k. store b (at + k) mid) (sym more) in
-      let whole : left (Size (length a + n)) new ≡ store (a ++ b) at old = stored-then a b at old size (omega arith) first behind in
+      let whole : left (Ok (length a + n)) new ≡ store (a ++ b) at old = stored-then a b at old size (omega arith) first behind in
       let last : new ≡ sets old at (a ++ b) = ap (λ (x : Left). x.buffer) (whole ∙ store-fits (a ++ b) at old (omega (arith, all))) in (
-        ap (λ k. left (Size (k + n)) new) (sym more) ∙ whole ∙ ap (λ l. store l at old) (sym (bare_inside h)),
+        ap (λ k. left (Ok (k + n)) new) (sym more) ∙ whole ∙ ap (λ l. store l at old) (sym (bare_inside h)),
         ap length last ∙ length-sets old at (a ++ b),
       )
 

@@ -1,4 +1,5 @@
 -- What words that are right are, and where the first that is not stands.
+use Rattle.std.specs.Prelude.{Err}
 use Prim.Native.Nat.{ℕ, ◌+◌, ◌≤◌, ◌<◌}
 use native.Mathlib.Omega.{arith}
 use mathlib.Core.Path.{◌≡◌, refl, ◌∙◌}
@@ -12,8 +13,8 @@ use Rattle.fields.specs.declared.Field.{Field}
 use Rattle.fields.specs.declared.Field.TheVariants as field
 use Rattle.fields.specs.declared.Refusal.{Refusal}
 use Rattle.fields.specs.declared.Refusal.TheVariants.{Tag, Range, Text}
-use Rattle.fields.specs.declared.Flaw.{Flaw}
-use Rattle.fields.specs.declared.Flaw.TheVariants.{Right, Wrong}
+use Rattle.fields.specs.Flaw.{Flaw}
+use Rattle.fields.specs.Flaw.{Right, Wrong}
 use Rattle.fields.specs.Words.{word, chars, indexed}
 use Rattle.writing.specs.Judge.{then, below, unused, value, optional_value, named, optional_index, choice, optional_name, reference, flaw}
 use Rattle.writing.specs.inside.Extern.{option_words, SlotInside, ExternInside}
@@ -30,7 +31,7 @@ below_is n ws i e = go (ltb (word ws i) n) refl e
 -- a flaw stands at one of the field's words
 abbrev pub Placed : Flaw → Type 0
 Placed Right = Unit {0}
-Placed (Wrong w j) = j ≤ 10
+Placed (Err fault) = fault.value ≤ 10
 
 -- the same as data, which follows the tests
 data Near : Flaw → Type 0 where
@@ -129,7 +130,7 @@ if_right false x w j e = impossible cc
 
 then-right : (x y : Flaw) → then x y ≡ Right → (x ≡ Right) × (y ≡ Right)
 then-right Right y e = (refl, e)
-then-right (Wrong w j) y e = impossible cc
+then-right (Err fault) y e = impossible cc
 
 -- a name that is right lies in the pool, and is text
 name_right : (pool ws : List ℕ) (i : ℕ) → named pool ws i ≡ Right
@@ -213,4 +214,4 @@ plain-flaw pool ws e =
   where
     same : (x : Flaw) → then x Right ≡ x
     same Right = refl
-    same (Wrong w j) = refl
+    same (Err fault) = refl

@@ -10,7 +10,7 @@ use Rattle.numbers.specs.Bytes as stored
 use Rattle.numbers.specs.Bytes.{store, part_of}
 use Rattle.numbers.specs.Leb.{unsigned}
 use Rattle.numbers.specs.Numbers.{value_of}
-use Rattle.numbers.specs.declared.bytes.Stored.{Stored}
+use Rattle.numbers.specs.Stored.{Stored}
 use Rattle.numbers.proofs.BytesLaws.{sets_append, store-fits, part-inside}
 use Rattle.fields.specs.declared.Field.{Field}
 use Rattle.fields.specs.declared.Field.TheVariants as field

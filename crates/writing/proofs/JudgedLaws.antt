@@ -1,4 +1,5 @@
 -- Judging in steps: one field, fields after others, a loop over groups, the count, and the bounds that keep every sum small.
+use Rattle.std.specs.Prelude.{Err, Ok}
 use Prim.Native.Nat.{ℕ, ◌+◌, ◌*◌, ◌^◌, ◌≤◌, ◌<◌}
 use native.Mathlib.Nat.{add-mul}
 use native.Mathlib.Omega.{arith}
@@ -11,9 +12,9 @@ use Rattle.numbers.proofs.LebLaws.{size_bounds}
 use Rattle.fields.specs.declared.Field.{Field}
 use Rattle.fields.specs.declared.Field.TheVariants as field
 use Rattle.fields.specs.declared.Refusal.{Refusal}
-use Rattle.fields.specs.declared.Flaw.TheVariants.{Right, Wrong}
-use Rattle.fields.specs.declared.Leaf.{Leaf}
-use Rattle.fields.specs.declared.Leaf.TheVariants.{Fine, Bad}
+use Rattle.fields.specs.Flaw.{Right, Wrong}
+use Rattle.fields.specs.Leaf.{Leaf}
+use Rattle.fields.specs.Leaf.{Fine, Bad}
 use Rattle.fields.specs.declared.Shape.{Shape}
 use Rattle.fields.specs.Words.{word, wide}
 use Rattle.writing.specs.Binary.{bytes}
@@ -55,10 +56,10 @@ pub after_bound : (pool row : List ℕ) → length pool ≤ 65536 → (so : Leaf
 after_bound pool row h so fs l e a b c d u p q = subst (λ l. Under l c d) (sym e) (go so u)
   where
     go : (so : Leaf) → Under so a b → Under (after so (onward (judge pool) row fs)) c d
-    go (Fine at made) u =
+    go (Ok span) u =
         let w = widths-small fs in
-        under_more (onward (judge pool) row fs at made) _ _ c d (along_bound pool fs (drop at row) at made h) (omega arith) (omega arith)
-    go (Bad w j) u = tt
+        under_more (onward (judge pool) row fs span.took span.made) _ _ c d (along_bound pool fs (drop span.took row) span.took span.made h) (omega arith) (omega arith)
+    go (Err fault) u = tt
 
 -- ---- a loop over groups
 

@@ -1,5 +1,7 @@
 -- No row of a shape that passes a test is larger than the largest row: by the most bytes that each field has, a group has no more
 -- for a word of it than half a name, and the count of a row has two bytes.
+use Rattle.std.specs.Prelude.{Ok}
+use Rattle.std.specs.Prelude.{Some}
 use Prim.Native.Nat.{ℕ, zero, suc, ◌+◌, ◌*◌, ◌≤◌}
 use native.Mathlib.Nat.{mul-le-mul_left, suc-mul}
 use native.Mathlib.Omega.{arith}
@@ -13,10 +15,8 @@ use lib.Seq.{drop-drop}
 use Rattle.numbers.specs.Leb.{unsigned}
 use Rattle.numbers.proofs.LebLaws.{few_bytes}
 use Rattle.numbers.proofs.Impossible.{impossible}
-use Rattle.fields.specs.declared.Answer.TheVariants.{Size}
 use Rattle.fields.specs.declared.Field.{Field}
 use Rattle.fields.specs.declared.Field.TheVariants as field
-use Rattle.fields.specs.declared.Found.TheVariants.{Is}
 use Rattle.fields.specs.declared.Shape.{Shape}
 use Rattle.fields.specs.Shape.{opening, group, closing, repeated, widths, row_width}
 use Rattle.fields.specs.Words.{word, wide}
@@ -79,7 +79,7 @@ bounded s =
 
 -- ---- rows
 
-pub no_larger : (s : Shape) → bounded s ≡ true → (row pool : List ℕ) (n : ℕ) → measured_row (Is s) row pool ≡ Size n → n ≤ largest_row
+pub no_larger : (s : Shape) → bounded s ≡ true → (row pool : List ℕ) (n : ℕ) → measured_row (Some s) row pool ≡ Ok n → n ≤ largest_row
 unfolding row_width
 no_larger s t row pool n e =
     let h = row_held s row pool e in

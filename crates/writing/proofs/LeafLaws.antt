@@ -1,4 +1,6 @@
 -- What the leaves of straight code come to: the room tests, the size of a V and of a name, and a name stored as its two parts.
+use Rattle.std.specs.Prelude.{Some, None, IfSome, Option}
+use Rattle.std.specs.Prelude.{Ok}
 use Prim.Native.Nat.{ℕ, ◌+◌, ◌-◌, ◌≤◌, ◌<◌}
 use native.Mathlib.Omega.{arith}
 use mathlib.Core.Path.{◌≡◌, refl, sym, ap, ◌∙◌}
@@ -11,8 +13,8 @@ use lib.Seq.{sets, length-sets, length-take-le}
 use Rattle.numbers.specs.Bytes.{Left, left, store, part_of}
 use Rattle.numbers.specs.Leb.{unsigned, signed}
 use Rattle.numbers.specs.Text.{text}
-use Rattle.numbers.specs.declared.bytes.Stored.{Stored}
-use Rattle.numbers.specs.declared.bytes.Stored.TheVariants.{Size, Room}
+use Rattle.numbers.specs.Stored.{Stored}
+use Rattle.numbers.specs.Stored.{Room}
 use Rattle.numbers.proofs.BytesLaws.{sets_append, store-fits, store-room, part-inside}
 use Rattle.fields.specs.declared.Field.TheVariants as field
 use Rattle.fields.specs.Words.{chars}
@@ -43,35 +45,35 @@ within_none size at room h = simp (le-ltb 0 size h)
 
 module _ (pool : List ℕ) where
   -- of a V: an index, a primitive, another primitive, another tag
-  pub index_size_lem : (x : ℕ) → right_size pool field.Value (1 ∷ x ∷ []) ≡ length (signed x)
+  pub index_size_lem : (x : ℕ) → right_size pool field.Value (1 ∷ x ∷ []) ≡ Some (length (signed x))
   unfolding right_size flaw value bytes valtype
   index_size_lem x = refl
 
-  pub primitive_size_lem : (x : ℕ) → x < 14 → right_size pool field.Value (0 ∷ x ∷ []) ≡ 1
+  pub primitive_size_lem : (x : ℕ) → x < 14 → right_size pool field.Value (0 ∷ x ∷ []) ≡ Some 1
   unfolding right_size flaw value bytes valtype
   primitive_size_lem x h = simp (lt-ltb x 14 h)
 
-  pub primitive_none : (x : ℕ) → 14 ≤ x → right_size pool field.Value (0 ∷ x ∷ []) ≡ 0
+  pub primitive_none : (x : ℕ) → 14 ≤ x → right_size pool field.Value (0 ∷ x ∷ []) ≡ None
   unfolding right_size flaw value bytes valtype
   primitive_none x h = simp (le-ltb x 14 h)
 
-  pub value_none : (tag x : ℕ) → (tag ≡ 0 → ⊥) → (tag ≡ 1 → ⊥) → right_size pool field.Value (tag ∷ x ∷ []) ≡ 0
+  pub value_none : (tag x : ℕ) → (tag ≡ 0 → ⊥) → (tag ≡ 1 → ⊥) → right_size pool field.Value (tag ∷ x ∷ []) ≡ None
   unfolding right_size flaw value bytes valtype
   value_none tag x h k = simp (ne_eqb tag 0 h, ne_eqb tag 1 k)
 
   -- of a name: one that is right, one that is not UTF-8, one that does not end within the pool
   module _ (start size : ℕ) where
     pub name_size_lem : start + size ≤ length pool → text (chars pool start size) ≡ true
-        → right_size pool field.Name (start ∷ size ∷ []) ≡ length (unsigned size) + size
+        → right_size pool field.Name (start ∷ size ∷ []) ≡ Some (length (unsigned size) + size)
     unfolding right_size flaw named bytes
-    name_size_lem h e = simp (le-leb (start + size) (length pool) h, e) (inside-length pool start size h)
+    name_size_lem h e = simp (le-leb (start + size) (length pool) h, e) (ap Some (inside-length pool start size h))
 
     pub name_not_text : start + size ≤ length pool → text (chars pool start size) ≡ false
-        → right_size pool field.Name (start ∷ size ∷ []) ≡ 0
+        → right_size pool field.Name (start ∷ size ∷ []) ≡ None
     unfolding right_size flaw named bytes
     name_not_text h e = simp (le-leb (start + size) (length pool) h, e)
 
-    pub name_past : length pool < start + size → right_size pool field.Name (start ∷ size ∷ []) ≡ 0
+    pub name_past : length pool < start + size → right_size pool field.Name (start ∷ size ∷ []) ≡ None
     unfolding right_size flaw named bytes
     name_past h = simp (lt-leb (start + size) (length pool) h)
 
@@ -92,10 +94,10 @@ store-none a b at l e h = rw (store-room (a ++ b) at l (omega (arith, length-app
 -- bytes stored one after the other, for which there is room, are stored at once
 pub stored-then :
     (a b : List ℕ) (at : ℕ) (l : List ℕ) {k : ℕ} {m n : List ℕ} {r q : Stored} → length b ≡ k → at + (length a + k) ≤ length l
-    → left r m ≡ store a at l → left q n ≡ store b (at + length a) m → left (Size (length a + k)) n ≡ store (a ++ b) at l
+    → left r m ≡ store a at l → left q n ≡ store b (at + length a) m → left (Ok (length a + k)) n ≡ store (a ++ b) at l
 stored-then a b at l {m = m} {n = n} s h e d =
     let one : m ≡ sets l at a = ap (λ (x : Left). x.buffer) (e ∙ store-fits a at l (omega arith)) in
     let same : length m ≡ length l = ap length one ∙ length-sets l at a in
     let two : n ≡ sets m (at + length a) b = ap (λ (x : Left). x.buffer) (d ∙ store-fits b (at + length a) m (omega arith)) in
     rw (store-fits (a ++ b) at l (omega (arith, length-append a b)), length-append, s)
-    (ap (left (Size (length a + _))) (two ∙ rw one (sets_append a b l at)))
+    (ap (left (Ok (length a + _))) (two ∙ rw one (sets_append a b l at)))

@@ -1,15 +1,16 @@
 -- The order in which a row is refused: for each way out of the code, what the definition says there.
+use Rattle.fields.specs.declared.Shape.{Shape}
+use Rattle.std.specs.Prelude.{Option}
 use Prim.Native.Nat.{ℕ, ◌≤◌, ◌<◌}
 use mathlib.Core.Path.{◌≡◌}
 use mathlib.Core.List.{List}
 use lib.ListN.{length}
 use borrow.Author.Tests.{lt-ltb, le-ltb, eq-eqb, ne_eqb}
 use Rattle.fields.specs.declared.Refusal.TheVariants as refusal
-use Rattle.fields.specs.declared.Answer.TheVariants.{Refused}
-use Rattle.fields.specs.declared.Found.{Found}
+use Rattle.fields.specs.Answer.{Refused}
 use Rattle.writing.specs.Row.{measured_found, measured_row}
 
-module _ (found : Found) (row pool : List ℕ) where
+module _ (found : Option Shape) (row pool : List ℕ) where
   pub row_too_long : 16384 < length row → measured_row found row pool ≡ Refused refusal.Limit 0
   unfolding measured_row
   row_too_long h = simp (lt-ltb _ _ h)

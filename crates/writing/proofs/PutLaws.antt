@@ -1,4 +1,5 @@
 -- The fields of a shape as one list, which has as many groups as the row's count says: judged, and put.
+use Rattle.std.specs.Prelude.{Err, Ok}
 use Prim.Native.Nat.{ℕ, ◌+◌, ◌*◌, ◌≤◌}
 use native.Mathlib.Omega.{arith}
 use mathlib.Core.Path.{◌≡◌, refl, sym, ap, ◌∙◌}
@@ -6,8 +7,8 @@ use mathlib.Core.Bool.{true}
 use mathlib.Core.List.{List, ◌++◌}
 use lib.ListN.{drop}
 use Rattle.fields.specs.declared.Field.{Field}
-use Rattle.fields.specs.declared.Leaf.{Leaf}
-use Rattle.fields.specs.declared.Leaf.TheVariants.{Fine, Bad}
+use Rattle.fields.specs.Leaf.{Leaf}
+use Rattle.fields.specs.Leaf.{Fine, Bad}
 use Rattle.fields.specs.declared.Shape.{Shape}
 use Rattle.fields.specs.Words.{word}
 use Rattle.writing.specs.Judge.{judge}
@@ -48,9 +49,9 @@ module _ (s : Shape) (pool row : List ℕ) (start : ℕ) where
     where
       go : (l : Leaf) → judges pool (opening s) row start 0 ≡ l
           → after l (λ a m. judges pool (later s (word row a)) row a m) ≡ after l (λ a m. judges pool (later s (word row behind)) row a m)
-      go (Fine a m) e =
-          ap (λ k. judges pool (later s (word row k)) row a m) (along-ends pool (opening s) (drop start row) start 0 a m e).0
-      go (Bad w j) e = refl
+      go (Ok span) e =
+          ap (λ k. judges pool (later s (word row k)) row span.took span.made) (along-ends pool (opening s) (drop start row) start 0 span.took span.made e).0
+      go (Err fault) e = refl
 
   -- what a row that is judged right makes
   pub shape_written : (e m : ℕ) → judged s pool row start ≡ Fine e m → written s pool row start ≡ puts pool (all_fields s row start) row start
@@ -58,7 +59,7 @@ module _ (s : Shape) (pool row : List ℕ) (start : ℕ) where
     where
       go : (l : Leaf) → judges pool (opening s) row start 0 ≡ l → after l (λ a n. judges pool (later s (word row a)) row a n) ≡ Fine e m
           → written s pool row start ≡ puts pool (all_fields s row start) row start
-      go (Fine a n) e0 h =
-          outs_staged (tells pool row) s start 0 a n e0
-          ∙ ap (λ k. puts pool (opening s ++ later s (word row k)) row start) (along-ends pool (opening s) (drop start row) start 0 a n e0).0
-      go (Bad w j) e0 h = impossible cc
+      go (Ok span) e0 h =
+          outs_staged (tells pool row) s start 0 span.took span.made e0
+          ∙ ap (λ k. puts pool (opening s ++ later s (word row k)) row start) (along-ends pool (opening s) (drop start row) start 0 span.took span.made e0).0
+      go (Err fault) e0 h = impossible cc

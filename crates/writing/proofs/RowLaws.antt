@@ -1,4 +1,10 @@
 -- What is seen of a row's fields makes its size and its bytes, and what a row that has a size holds.
+use Rattle.std.specs.Prelude.{Some, None, IfSome, Option}
+use Rattle.fields.proofs.OutcomeLaws.{fine-same}
+use Rattle.std.specs.Prelude.{Ok}
+use Rattle.std.specs.Prelude.{Some}
+use Rattle.std.specs.Prelude.{Option}
+use Rattle.std.specs.Prelude.{Err}
 use Prim.Native.Nat.{ℕ, zero, suc, ◌+◌, ◌*◌, ◌≤◌, ◌<◌}
 use native.Mathlib.Omega.{arith}
 use mathlib.Core.Path.{◌≡◌, refl, sym, ap, ◌∙◌, subst}
@@ -10,14 +16,12 @@ use lib.ListN.{length, drop, length-append}
 use lib.Seq.{sets, drop-drop}
 use Rattle.numbers.specs.Leb.{unsigned, signed}
 use Rattle.numbers.proofs.LebLaws.{size_bounds}
-use Rattle.fields.specs.declared.Answer.TheVariants.{Size, Refused}
+use Rattle.fields.specs.Answer.{Refused}
 use Rattle.fields.specs.declared.Field.{Field}
 use Rattle.fields.specs.declared.Field.TheVariants as field
-use Rattle.fields.specs.declared.Flaw.{Flaw}
-use Rattle.fields.specs.declared.Flaw.TheVariants.{Right, Wrong}
-use Rattle.fields.specs.declared.Found.{Found}
-use Rattle.fields.specs.declared.Found.TheVariants.{Is}
-use Rattle.fields.specs.declared.Leaf.TheVariants.{Fine}
+use Rattle.fields.specs.Flaw.{Flaw}
+use Rattle.fields.specs.Flaw.{Right, Wrong}
+use Rattle.fields.specs.Leaf.{Fine}
 use Rattle.fields.specs.declared.Refusal.{Refusal}
 use Rattle.fields.specs.declared.Refusal.TheVariants.{Room}
 use Rattle.fields.specs.declared.Shape.{Shape}
@@ -63,19 +67,19 @@ within_not size at room e h = go (ltb 0 size) refl e
 
 -- ---- fields by their words
 
-pub known_of : {pool : List ℕ} {f : Field} {ws : List ℕ} {r : ℕ} → r ≡ right_size pool f ws → 0 < r → Known pool f ws r
+pub known_of : {pool : List ℕ} {f : Field} {ws : List ℕ} {r : ℕ} → Some r ≡ right_size pool f ws → Known pool f ws r
 unfolding right_size
-known_of {pool} {f} {ws} {r} e h = go (flaw pool f ws) refl e
+known_of {pool} {f} {ws} {r} e = go (flaw pool f ws) refl e
   where
-    go : (x : Flaw) → flaw pool f ws ≡ x → r ≡ size_if x (length (bytes pool f ws)) → Known pool f ws r
-    go Right p e = record { right = p; size = e }
-    go (Wrong w j) p e = absurd (omega arith)
+    go : (x : Flaw) → flaw pool f ws ≡ x → Some r ≡ size_if x (length (bytes pool f ws)) → Known pool f ws r
+    go Right p e = record { right = p; size = cc }
+    go (Err fault) p e = impossible cc
 
 -- a value does not look at the pool
-pub value-known : {t x r : ℕ} → r ≡ right_size [] field.Value (t ∷ x ∷ []) → 0 < r → (pool : List ℕ) → Known pool field.Value (t ∷ x ∷ []) r
+pub value-known : {t x r : ℕ} → Some r ≡ right_size [] field.Value (t ∷ x ∷ []) → (pool : List ℕ) → Known pool field.Value (t ∷ x ∷ []) r
 unfolding flaw bytes
-value-known {t} {x} {r} e h pool =
-    let s : Known [] field.Value (t ∷ x ∷ []) r = known_of e h in
+value-known {t} {x} {r} e pool =
+    let s : Known [] field.Value (t ∷ x ∷ []) r = known_of e in
     record { right = s.right; size = s.size }
 
 pub valtype-small : (t x : ℕ) → length (valtype t x) ≤ 5
@@ -86,23 +90,23 @@ valtype-small t x = go (eqb t 0)
     go true = omega arith
     go false = (size_bounds 64 x).1
 
-pub value-small : (t x : ℕ) → right_size [] field.Value (t ∷ x ∷ []) ≤ 5
+pub value-small : (t x : ℕ) → IfSome (right_size [] field.Value (t ∷ x ∷ [])) (λ n. n ≤ 5)
 unfolding right_size bytes
 value-small t x = go (flaw [] field.Value (t ∷ x ∷ []))
   where
-    go : (y : Flaw) → size_if y (length (valtype t x)) ≤ 5
+    go : (y : Flaw) → IfSome (size_if y (length (valtype t x))) (λ n. n ≤ 5)
     go Right = valtype-small t x
-    go (Wrong w j) = omega arith
+    go (Err fault) = tt
 
-pub name_small : (pool : List ℕ) (s n : ℕ) → length pool ≤ 65536 → right_size pool field.Name (s ∷ n ∷ []) ≤ 65541
+pub name_small : (pool : List ℕ) (s n : ℕ) → length pool ≤ 65536 → IfSome (right_size pool field.Name (s ∷ n ∷ [])) (λ r. r ≤ 65541)
 unfolding right_size bytes flaw
 name_small pool s n few = go (flaw pool field.Name (s ∷ n ∷ [])) refl
   where
-    go : (y : Flaw) → flaw pool field.Name (s ∷ n ∷ []) ≡ y → size_if y (length (bytes pool field.Name (s ∷ n ∷ []))) ≤ 65541
+    go : (y : Flaw) → flaw pool field.Name (s ∷ n ∷ []) ≡ y → IfSome (size_if y (length (bytes pool field.Name (s ∷ n ∷ [])))) (λ r. r ≤ 65541)
     go Right e =
         let h = name-inside pool (s ∷ n ∷ []) 0 e in
         omega (arith, inside-length pool s n h, (size_bounds 128 n).1)
-    go (Wrong w j) e = omega arith
+    go (Err fault) e = tt
 
 -- an optional value: right, and how many bytes it has
 module _ (t x : ℕ) where
@@ -312,7 +316,7 @@ along-known pool (f ∷ fs) ws at made r =
 
 pub row-known : (s : Shape) (pool row : List ℕ) → length pool ≤ 65536 → length row ≤ 16384 → length row ≡ row_width s row 1
     → Rights pool (all_fields s row 1) (drop 1 row) → {r : ℕ} → r ≡ length (strings pool (all_fields s row 1) (drop 1 row))
-    → measured_row (Is s) row pool ≡ Size r
+    → measured_row (Some s) row pool ≡ Ok r
 row-known s pool row small short width rights {r} er =
     sized-accepted s row pool r
     (record { width = sym width; short = short; small = small; end = _; judges = judged_along s pool row 1 ∙ all })
@@ -336,7 +340,7 @@ along-rights pool (f ∷ fs) ws at made a m e =
         → (along (judge pool) fs (drop (wide f) ws) (at + wide f) (made + length (bytes pool f ws)) ≡ Fine a m → Rights pool fs (drop (wide f) ws))
         → (flaw pool f ws ≡ Right) × Rights pool fs (drop (wide f) ws)
     go Right p e ih = (p, ih e)
-    go (Wrong w j) p e ih = impossible cc
+    go (Err fault) p e ih = impossible cc
 
 pub record Held (s : Shape) (row pool : List ℕ) (n : ℕ) : Type 0 where
   pub width : length row ≡ row_width s row 1
@@ -345,13 +349,13 @@ pub record Held (s : Shape) (row pool : List ℕ) (n : ℕ) : Type 0 where
   pub right : Rights pool (all_fields s row 1) (drop 1 row)
   pub size : n ≡ length (strings pool (all_fields s row 1) (drop 1 row))
   pub made : written s pool row 1 ≡ strings pool (all_fields s row 1) (drop 1 row)
-  pub bytes : row_bytes (Is s) pool row ≡ strings pool (all_fields s row 1) (drop 1 row)
+  pub bytes : row_bytes (Some s) pool row ≡ strings pool (all_fields s row 1) (drop 1 row)
 
-module _ (s : Shape) (row pool : List ℕ) {n : ℕ} (e : measured_row (Is s) row pool ≡ Size n) where
+module _ (s : Shape) (row pool : List ℕ) {n : ℕ} (e : measured_row (Some s) row pool ≡ Ok n) where
   shaped : answer.Sized s row 1 pool n
-  shaped = go (accepted (Is s) row pool n e)
+  shaped = go (accepted (Some s) row pool n e)
     where
-      go : Accepted (Is s) row pool n → answer.Sized s row 1 pool n
+      go : Accepted (Some s) row pool n → answer.Sized s row 1 pool n
       go k = let h = k.is in let same : k.shape ≡ s = cc in subst (λ x. answer.Sized x row 1 pool n) same k.sized
 
   all : along (judge pool) (all_fields s row 1) (drop 1 row) 1 0 ≡ Fine shaped.end n
@@ -363,7 +367,7 @@ module _ (s : Shape) (row pool : List ℕ) {n : ℕ} (e : measured_row (Is s) ro
   length_is : n ≡ length (strings pool (all_fields s row 1) (drop 1 row))
   length_is =
       let h = sym all ∙ along-known pool (all_fields s row 1) (drop 1 row) 1 0 rights in
-      let q : n ≡ 0 + length (strings pool (all_fields s row 1) (drop 1 row)) = cc in
+      let q : n ≡ 0 + length (strings pool (all_fields s row 1) (drop 1 row)) = (fine-same h).1 in
       omega arith
 
   all_made : written s pool row 1 ≡ strings pool (all_fields s row 1) (drop 1 row)
@@ -384,12 +388,12 @@ module _ (s : Shape) (row pool : List ℕ) {n : ℕ} (e : measured_row (Is s) ro
 
 -- ---- answers
 
-module _ (found : Found) (row pool : List ℕ) where
-  module _ {n : ℕ} (e : measured_row found row pool ≡ Size n) (out : List ℕ) (at : ℕ) where
+module _ (found : Option Shape) (row pool : List ℕ) where
+  module _ {n : ℕ} (e : measured_row found row pool ≡ Ok n) (out : List ℕ) (at : ℕ) where
     pub written_answer : at + n ≤ length out → {new : List ℕ} → new ≡ sets out at (row_bytes found pool row)
-        → left (Size n) new ≡ write_row found row pool out at
+        → left (Ok n) new ≡ write_row found row pool out at
     unfolding write_row stored
-    written_answer h p = rw e (simp (le-leb _ _ h) (ap (λ l. left (Size n) l) p))
+    written_answer h p = rw e (simp (le-leb _ _ h) (ap (λ l. left (Ok n) l) p))
 
     pub room_answer : (at + n ≤ length out → ⊥) → left (Refused Room n) out ≡ write_row found row pool out at
     unfolding write_row stored
@@ -400,16 +404,16 @@ module _ (found : Found) (row pool : List ℕ) where
         not_room false p = leb-false (at + n) (length out) p
 
     pub tried_some : 0 < n → at + n ≤ length out → {new : List ℕ} → new ≡ sets out at (row_bytes found pool row)
-        → Tried found row pool out at n new
-    tried_some some h p = record { none = λ z. absurd (omega arith); some = λ k. written_answer h p }
+        → Tried found row pool out at (Some n) new
+    tried_some some h {new} p = record { none = λ z. impossible cc; some = λ m q. let same : n ≡ m = cc in subst (λ k. left (Ok k) new ≡ write_row found row pool out at) same (written_answer h p) }
 
   pub refused_answer : {w : Refusal} {v : ℕ} → measured_row found row pool ≡ Refused w v → (out : List ℕ) (at : ℕ)
       → left (Refused w v) out ≡ write_row found row pool out at
   unfolding write_row stored
   refused_answer e out at = rw e
 
-pub tried_none : (found : Found) (row pool out : List ℕ) (at : ℕ) → Tried found row pool out at 0 out
-tried_none found row pool out at = record { none = λ z. refl; some = λ h. absurd (omega arith) }
+pub tried_none : (found : Option Shape) (row pool out : List ℕ) (at : ℕ) → Tried found row pool out at None out
+tried_none found row pool out at = record { none = λ z. refl; some = λ n h. impossible cc }
 
 -- ---- what stands behind a lead and a byte, which have no words and are always right
 
@@ -433,7 +437,7 @@ pub record TwoHeld (l z a b : Field) (row pool : List ℕ) (n : ℕ) : Type 0 wh
   pub second : flaw pool b (drop (1 + wide a) row) ≡ Right
   pub size : n ≡ length (bytes pool l (drop 1 row)) + length (bytes pool z (drop 1 row)) + length (bytes pool a (drop 1 row))
       + length (bytes pool b (drop (1 + wide a) row))
-  pub made : row_bytes (Is (two_of l z a b)) pool row
+  pub made : row_bytes (Some (two_of l z a b)) pool row
       ≡ bytes pool l (drop 1 row) ++ (bytes pool z (drop 1 row) ++ (bytes pool a (drop 1 row) ++ bytes pool b (drop (1 + wide a) row)))
 
 module _ (l z a b : Field) (el : wide l ≡ 0) (ez : wide z ≡ 0) (row pool : List ℕ) where
@@ -464,7 +468,7 @@ module _ (l z a b : Field) (el : wide l ≡ 0) (ez : wide z ≡ 0) (row pool : L
   pub two_known : Always pool l → Always pool z → length pool ≤ 65536 → length row ≤ 16384 → length row ≡ 1 + wide a + wide b
       → {p q r : ℕ} → Known pool a (drop 1 row) p → Known pool b (drop (1 + wide a) row) q
       → r ≡ length (bytes pool l (drop 1 row)) + length (bytes pool z (drop 1 row)) + p + q
-      → measured_row (Is (two_of l z a b)) row pool ≡ Size r
+      → measured_row (Some (two_of l z a b)) row pool ≡ Ok r
   unfolding Rights flaw
   two_known rl rz small short width sa sb er =
       row-known (two_of l z a b) pool row small short (width ∙ sym two_width) (
@@ -479,7 +483,7 @@ module _ (l z a b : Field) (el : wide l ≡ 0) (ez : wide z ≡ 0) (row pool : L
       )
       (omega (arith, two_length, sa.size, sb.size))
 
-  pub two_held : {n : ℕ} → measured_row (Is (two_of l z a b)) row pool ≡ Size n → TwoHeld l z a b row pool n
+  pub two_held : {n : ℕ} → measured_row (Some (two_of l z a b)) row pool ≡ Ok n → TwoHeld l z a b row pool n
   unfolding Rights
   two_held e =
       let h = row_held (two_of l z a b) row pool e in
@@ -501,18 +505,18 @@ pub record PairHeld (s : Shape) (head : List ℕ) (a b : Field) (row pool : List
   pub first : flaw pool a (drop 1 row) ≡ Right
   pub second : flaw pool b (drop (1 + wide a) row) ≡ Right
   pub size : n ≡ length head + length (bytes pool a (drop 1 row)) + length (bytes pool b (drop (1 + wide a) row))
-  pub made : row_bytes (Is s) pool row ≡ head ++ (bytes pool a (drop 1 row) ++ bytes pool b (drop (1 + wide a) row))
+  pub made : row_bytes (Some s) pool row ≡ head ++ (bytes pool a (drop 1 row) ++ bytes pool b (drop (1 + wide a) row))
 
 -- a byte and two fields
 module _ (lead : ℕ) (a b : Field) (row pool : List ℕ) where
   pub lead_known : length pool ≤ 65536 → length row ≤ 16384 → length row ≡ 1 + wide a + wide b
       → {p q r : ℕ} → Known pool a (drop 1 row) p → Known pool b (drop (1 + wide a) row) q → r ≡ 1 + p + q
-      → measured_row (Is (two_of (field.Fixed lead) field.Nothing a b)) row pool ≡ Size r
+      → measured_row (Some (two_of (field.Fixed lead) field.Nothing a b)) row pool ≡ Ok r
   unfolding wide flaw bytes
   lead_known small short width sa sb er =
       two_known (field.Fixed lead) field.Nothing a b refl refl row pool (λ ws. refl) (λ ws. refl) small short width sa sb (omega arith)
 
-  pub lead_held : {n : ℕ} → measured_row (Is (two_of (field.Fixed lead) field.Nothing a b)) row pool ≡ Size n
+  pub lead_held : {n : ℕ} → measured_row (Some (two_of (field.Fixed lead) field.Nothing a b)) row pool ≡ Ok n
       → PairHeld (two_of (field.Fixed lead) field.Nothing a b) (lead ∷ []) a b row pool n
   unfolding wide bytes
   lead_held e =
@@ -531,12 +535,12 @@ module _ (lead : ℕ) (a b : Field) (row pool : List ℕ) where
 module _ (a b : Field) (row pool : List ℕ) where
   pub bare_known : length pool ≤ 65536 → length row ≤ 16384 → length row ≡ 1 + wide a + wide b
       → {p q r : ℕ} → Known pool a (drop 1 row) p → Known pool b (drop (1 + wide a) row) q → r ≡ p + q
-      → measured_row (Is (two_of field.Nothing field.Nothing a b)) row pool ≡ Size r
+      → measured_row (Some (two_of field.Nothing field.Nothing a b)) row pool ≡ Ok r
   unfolding wide flaw bytes
   bare_known small short width sa sb er =
       two_known field.Nothing field.Nothing a b refl refl row pool (λ ws. refl) (λ ws. refl) small short width sa sb (omega arith)
 
-  pub bare_held : {n : ℕ} → measured_row (Is (two_of field.Nothing field.Nothing a b)) row pool ≡ Size n
+  pub bare_held : {n : ℕ} → measured_row (Some (two_of field.Nothing field.Nothing a b)) row pool ≡ Ok n
       → PairHeld (two_of field.Nothing field.Nothing a b) [] a b row pool n
   unfolding wide bytes
   bare_held e =
@@ -563,7 +567,7 @@ pub record ManyHeld (l z a c d t : Field) (w : ℕ) (element : List ℕ → List
   pub size : n ≡ length (bytes pool l (drop 1 row)) + length (bytes pool z (drop 1 row)) + length (bytes pool a (drop 1 row))
       + length (unsigned (word row (1 + wide a))) + length (elements (word row (1 + wide a)) w element (drop (2 + wide a) row))
       + length (bytes pool t (drop (2 + wide a + word row (1 + wide a) * w) row))
-  pub made : row_bytes (Is (many_of l z a c d t)) pool row
+  pub made : row_bytes (Some (many_of l z a c d t)) pool row
       ≡ bytes pool l (drop 1 row)
       ++ (bytes pool z (drop 1 row)
       ++ (bytes pool a (drop 1 row)
@@ -668,7 +672,7 @@ module _ (l z a c d t : Field) (el : wide l ≡ 0) (ez : wide z ≡ 0) {w : ℕ}
         → base ≡ length (bytes pool l (drop 1 row)) + length (bytes pool z (drop 1 row)) + p + length (unsigned (word row (1 + wide a)))
         → Groups pool (c ∷ d ∷ []) element (word row (1 + wide a)) (drop (2 + wide a) row) base m
         → Known pool t (drop (2 + wide a + word row (1 + wide a) * w) row) q → r ≡ m + q
-        → measured_row (Is (many_of l z a c d t)) row pool ≡ Size r
+        → measured_row (Some (many_of l z a c d t)) row pool ≡ Ok r
     unfolding Rights flaw wide
     many_known rl rz small short width {p} {base} {m} {q} {r} sa eb sg st er =
         row-known (many_of l z a c d t) pool row small short (width ∙ sym many_width) (
@@ -691,7 +695,7 @@ module _ (l z a c d t : Field) (el : wide l ≡ 0) (ez : wide z ≡ 0) {w : ℕ}
         )
         (omega (arith, many_length, sa.size, sg.size, st.size, ap length (group-strings pool (c ∷ d ∷ []) element same N X)))
 
-    pub many_held : {n : ℕ} → measured_row (Is (many_of l z a c d t)) row pool ≡ Size n → ManyHeld l z a c d t w element row pool n
+    pub many_held : {n : ℕ} → measured_row (Some (many_of l z a c d t)) row pool ≡ Ok n → ManyHeld l z a c d t w element row pool n
     unfolding Rights wide
     many_held e =
         let h = row_held (many_of l z a c d t) row pool e in
@@ -717,20 +721,20 @@ pub record CountedHeld (lead : ℕ) (c d : Field) (w : ℕ) (element : List ℕ 
   pub small : length pool ≤ 65536
   pub groups : Rights pool (repeated (word row 1) (c ∷ d ∷ [])) (drop 2 row)
   pub size : n ≡ 1 + length (unsigned (word row 1)) + length (elements (word row 1) w element (drop 2 row))
-  pub made : row_bytes (Is (many_of (field.Fixed lead) field.Nothing field.Nothing c d field.Nothing)) pool row
+  pub made : row_bytes (Some (many_of (field.Fixed lead) field.Nothing field.Nothing c d field.Nothing)) pool row
       ≡ lead ∷ (unsigned (word row 1) ++ elements (word row 1) w element (drop 2 row))
 
 module _ (lead : ℕ) (c d : Field) {w : ℕ} (ew : w ≡ widths (c ∷ d ∷ [])) (row pool : List ℕ) {element : List ℕ → List ℕ}
     (same : (ws : List ℕ) → element ws ≡ strings pool (c ∷ d ∷ []) ws) where
   pub counted_known : length pool ≤ 65536 → length row ≤ 16384 → length row ≡ 2 + word row 1 * w
       → {base r : ℕ} → base ≡ 1 + length (unsigned (word row 1)) → Groups pool (c ∷ d ∷ []) element (word row 1) (drop 2 row) base r
-      → measured_row (Is (many_of (field.Fixed lead) field.Nothing field.Nothing c d field.Nothing)) row pool ≡ Size r
+      → measured_row (Some (many_of (field.Fixed lead) field.Nothing field.Nothing c d field.Nothing)) row pool ≡ Ok r
   unfolding wide flaw bytes
   counted_known small short width {base} {r} eb sg =
       many_known (field.Fixed lead) field.Nothing field.Nothing c d field.Nothing refl refl ew row pool same (λ ws. refl) (λ ws. refl) small short
       (omega arith) (nothing_at pool (drop 1 row)) (omega arith) sg (nothing_at pool (drop (2 + word row 1 * w) row)) (omega arith)
 
-  pub counted_held : {n : ℕ} → measured_row (Is (many_of (field.Fixed lead) field.Nothing field.Nothing c d field.Nothing)) row pool ≡ Size n
+  pub counted_held : {n : ℕ} → measured_row (Some (many_of (field.Fixed lead) field.Nothing field.Nothing c d field.Nothing)) row pool ≡ Ok n
       → CountedHeld lead c d w element row pool n
   unfolding wide bytes
   counted_held e =

@@ -13,7 +13,7 @@ use Rattle.numbers.specs.Leb.{unsigned}
 use Rattle.numbers.proofs.LebLaws.{size_bounds, few_bytes}
 use Rattle.fields.specs.declared.Field.{Field}
 use Rattle.fields.specs.declared.Field.TheVariants as field
-use Rattle.fields.specs.declared.Flaw.TheVariants.{Right}
+use Rattle.fields.specs.Flaw.{Right}
 use Rattle.fields.specs.Words.{word, indexed, wide}
 use Rattle.writing.specs.Binary.{name, valtype, optional, resultlist, destructor, canonopt, slot_at, slots_at, slots, externname, typebound, externdesc, bytes, argument, coresortidx, sortidx}
 use Rattle.writing.specs.Judge.{named, flaw}

@@ -1,14 +1,15 @@
 -- A walk from words to bytes: where it ends, how much it makes, and the count that it is told.
+use Rattle.std.specs.Prelude.{Err, Ok}
 use Prim.Native.Nat.{ℕ, suc, ◌+◌, ◌*◌, ◌≤◌}
 use native.Mathlib.Omega.{arith}
 use mathlib.Core.Path.{◌≡◌, refl, sym, ◌∙◌}
 use mathlib.Core.List.{List, [], ◌∷◌, ◌++◌}
 use lib.ListN.{length, drop, length-append}
 use Rattle.fields.specs.declared.Field.{Field}
-use Rattle.fields.specs.declared.Flaw.{Flaw}
-use Rattle.fields.specs.declared.Flaw.TheVariants.{Right, Wrong}
-use Rattle.fields.specs.declared.Leaf.{Leaf}
-use Rattle.fields.specs.declared.Leaf.TheVariants.{Fine, Bad}
+use Rattle.fields.specs.Flaw.{Flaw}
+use Rattle.fields.specs.Flaw.{Right, Wrong}
+use Rattle.fields.specs.Leaf.{Leaf}
+use Rattle.fields.specs.Leaf.{Fine, Bad}
 use Rattle.fields.specs.Words.{word, wide}
 use Rattle.writing.specs.Binary.{bytes}
 use Rattle.writing.specs.Judge.{flaw, unless, judge}
@@ -19,6 +20,7 @@ use Rattle.fields.specs.Shape.{widths}
 use Rattle.writing.specs.Write.{bytes_at, writer}
 use Rattle.writing.proofs.SizeLaws.{field_bound}
 use Rattle.fields.proofs.NearLaws.{first_word}
+use Rattle.fields.proofs.OutcomeLaws.{fine-same}
 use Rattle.fields.proofs.RunLaws.{under_more}
 use Rattle.fields.proofs.StageLaws.{Tells}
 use Rattle.numbers.proofs.Impossible.{impossible}
@@ -29,8 +31,8 @@ unfolding judge
 judge-fine pool f ws t m e = go (flaw pool f ws) e
   where
     go : (w : Flaw) → unless w (Fine (wide f) (length (bytes pool f ws))) ≡ Fine t m → (t ≡ wide f) × (m ≡ length (bytes pool f ws))
-    go Right e = (cc, cc)
-    go (Wrong w j) e = impossible cc
+    go Right e = let s = fine-same e in (sym s.0, sym s.1)
+    go (Err fault) e = impossible cc
 
 -- a walk from words to bytes that ends for some bytes made before ends for any
 pub along-fine : (pool : List ℕ) (fs : List Field) (ws : List ℕ) (at made a m : ℕ) → along (judge pool) fs ws at made ≡ Fine a m
@@ -49,18 +51,18 @@ along-fine pool (f ∷ fs) ws at made a m e n =
         ≡ Fine (at + t + widths fs) (n + length (makes (judge pool) (bytes_at pool) fs (at + t) (drop t ws))))
         → next l (λ t k. along (judge pool) fs (drop t ws) (at + t) (n + k)) at
         ≡ Fine (at + (wide f + widths fs)) (n + length (bytes pool f ws ++ makes (judge pool) (bytes_at pool) fs (at + took l) (drop (took l) ws)))
-    go (Fine t k) j e ih =
-        let w = judge-fine pool f ws t k j in
-        let rest = makes (judge pool) (bytes_at pool) fs (at + t) (drop t ws) in
-        let p : at + t + widths fs ≡ at + (wide f + widths fs) = omega (arith, w.0) in
-        let q : n + k + length rest ≡ n + length (bytes pool f ws ++ rest) = omega (arith, w.1, length-append (bytes pool f ws) rest) in
-        ih t k e (n + k) ∙ (λ i. Fine (p i) (q i))
-    go (Bad w j) p e ih = impossible cc
+    go (Ok span) j e ih =
+        let w = judge-fine pool f ws span.took span.made j in
+        let rest = makes (judge pool) (bytes_at pool) fs (at + span.took) (drop span.took ws) in
+        let p : at + span.took + widths fs ≡ at + (wide f + widths fs) = omega (arith, w.0) in
+        let q : n + span.made + length rest ≡ n + length (bytes pool f ws ++ rest) = omega (arith, w.1, length-append (bytes pool f ws) rest) in
+        ih span.took span.made e (n + span.made) ∙ (λ i. Fine (p i) (q i))
+    go (Err fault) p e ih = impossible cc
 
 -- a walk from words to bytes ends past the fields' words, with the length of their bytes made, which is bounded
 pub along-ends : (pool : List ℕ) (fs : List Field) (ws : List ℕ) (at made a m : ℕ) → along (judge pool) fs ws at made ≡ Fine a m
     → (a ≡ at + widths fs) × (m ≡ made + length (makes (judge pool) (bytes_at pool) fs at ws))
-along-ends pool fs ws at made a m e = let h = along-fine pool fs ws at made a m e made in (cc, cc)
+along-ends pool fs ws at made a m e = fine-same (sym e ∙ along-fine pool fs ws at made a m e made)
 
 pub along_bound : (pool : List ℕ) (fs : List Field) (ws : List ℕ) (at made : ℕ) → length pool ≤ 65536
     → Under (along (judge pool) fs ws at made) (at + widths fs) (made + (length fs + 32770 * widths fs))
@@ -78,7 +80,7 @@ along_bound pool (f ∷ fs) ws at made h =
     go Right e ih =
         under_more (along (judge pool) fs (drop (wide f) ws) (at + wide f) (made + length (bytes pool f ws))) _ _ _ _ ih (omega arith)
         (omega (arith, field_bound pool f ws h e))
-    go (Wrong w j) e ih = tt
+    go (Err fault) e ih = tt
 
 -- the count at a place is the word there
 pub tells : (pool row : List ℕ) → Tells (writer pool) row (λ at. word row at)

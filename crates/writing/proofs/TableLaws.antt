@@ -1,4 +1,6 @@
 -- A row that is accepted is written as its production in the table says, if each line's shape and production agree.
+use Rattle.std.specs.Prelude.{Some}
+use Rattle.std.specs.Prelude.{Err, Ok}
 use Prim.Native.Nat.{ℕ, ◌+◌}
 use mathlib.Core.Path.{◌≡◌, refl, sym, ap, ◌∙◌, subst}
 use mathlib.Core.Bool.{Bool, true, false, cond}
@@ -6,11 +8,10 @@ use mathlib.Core.List.{List, [], ◌∷◌, ◌++◌}
 use lib.Dec.{eqb}
 use lib.ListN.{length, drop}
 use Rattle.fields.specs.declared.Field.{Field}
-use Rattle.fields.specs.declared.Flaw.{Flaw}
-use Rattle.fields.specs.declared.Flaw.TheVariants.{Right, Wrong}
-use Rattle.fields.specs.declared.Leaf.{Leaf}
-use Rattle.fields.specs.declared.Leaf.TheVariants.{Fine, Bad}
-use Rattle.fields.specs.declared.Found.TheVariants.{Is}
+use Rattle.fields.specs.Flaw.{Flaw}
+use Rattle.fields.specs.Flaw.{Right, Wrong}
+use Rattle.fields.specs.Leaf.{Leaf}
+use Rattle.fields.specs.Leaf.{Fine, Bad}
 use Rattle.fields.specs.declared.Shape.{Shape}
 use Rattle.fields.specs.Words.{wide}
 use Rattle.writing.specs.Binary.{bytes}
@@ -29,8 +30,8 @@ strings pool [] ws = []
 strings pool (f ∷ fs) ws = bytes pool f ws ++ strings pool fs (drop (wide f) ws)
 
 abbrev Ends : Leaf → Type 0
-Ends (Fine a m) = Unit {0}
-Ends (Bad w j) = ⊥
+Ends (Ok span) = Unit {0}
+Ends (Err fault) = ⊥
 
 pub makes-right : (pool : List ℕ) (fs : List Field) (ws : List ℕ) (at made : ℕ) → Ends (along (judge pool) fs ws at made)
     → makes (judge pool) (bytes_at pool) fs at ws ≡ strings pool fs ws
@@ -48,7 +49,7 @@ makes-right pool (f ∷ fs) ws at made e =
         (drop (took (unless x (Fine (wide f) (length (bytes pool f ws))))) ws)
         ≡ bytes pool f ws ++ strings pool fs (drop (wide f) ws)
     go Right e ih = ap (λ l. bytes pool f ws ++ l) (ih e)
-    go (Wrong w j) e ih = absurd e
+    go (Err fault) e ih = absurd e
 
 -- the bytes of a shape whose fields are right
 pub written-right : (s : Shape) (pool row : List ℕ) (start e m : ℕ) → judged s pool row start ≡ Fine e m
@@ -60,14 +61,14 @@ written-right s pool row start e m r =
 -- ---- the table
 
 -- a kind that the table has is written as its line's production says
-pub as_production : (ls : List Line) → All Agrees ls → (k : ℕ) (s : Shape) → shape_in ls k ≡ Is s
+pub as_production : (ls : List Line) → All Agrees ls → (k : ℕ) (s : Shape) → shape_in ls k ≡ Some s
     → (pool row : List ℕ) (e m : ℕ) → judged s pool row 1 ≡ Fine e m → written s pool row 1 ≡ production_in ls k pool (drop 1 row)
 unfolding shape_in production_in
 as_production [] a k s f pool row e m r = impossible cc
 as_production (l ∷ ls) a k s f pool row e m r = go (eqb k l.kind) f (λ g. as_production ls a.1 k s g pool row e m r)
   where
-    go : (b : Bool) → cond b (Is l.shape) (shape_in ls k) ≡ Is s
-        → (shape_in ls k ≡ Is s → written s pool row 1 ≡ production_in ls k pool (drop 1 row))
+    go : (b : Bool) → cond b (Some l.shape) (shape_in ls k) ≡ Some s
+        → (shape_in ls k ≡ Some s → written s pool row 1 ≡ production_in ls k pool (drop 1 row))
         → written s pool row 1 ≡ cond b (l.production pool (drop 1 row)) (production_in ls k pool (drop 1 row))
     go true f ih =
         let h : l.shape ≡ s = cc in

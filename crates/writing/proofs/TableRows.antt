@@ -1,5 +1,8 @@
 -- A row that a section's table takes: it is written as its production says, its size is the length of its bytes and no larger than
 -- can be, and its bytes are bytes. What is asked of the table is that its lines agree, and a test that is computed over all of them.
+use Rattle.std.specs.Prelude.{Ok}
+use Rattle.std.specs.Prelude.{Some}
+use Rattle.std.specs.Prelude.{Err}
 use Prim.Native.Nat.{ℕ, zero, suc, ◌+◌, ◌^◌}
 use mathlib.Core.Path.{◌≡◌, refl, sym, ap, ◌∙◌}
 use mathlib.Core.Bool.{Bool, true, false, ◌&&◌, cond}
@@ -10,11 +13,9 @@ use lib.ListN.{length, drop}
 use Rattle.numbers.specs.Bytes.{Bytes}
 use Rattle.fields.specs.declared.Field.{Field}
 use Rattle.fields.specs.declared.Field.TheVariants as field
-use Rattle.fields.specs.declared.Flaw.{Flaw}
-use Rattle.fields.specs.declared.Flaw.TheVariants.{Right, Wrong}
-use Rattle.fields.specs.declared.Leaf.TheVariants.{Fine}
-use Rattle.fields.specs.declared.Answer.TheVariants.{Size}
-use Rattle.fields.specs.declared.Found.TheVariants.{Is}
+use Rattle.fields.specs.Flaw.{Flaw}
+use Rattle.fields.specs.Flaw.{Right, Wrong}
+use Rattle.fields.specs.Leaf.{Fine}
 use Rattle.fields.specs.declared.Shape.{Shape}
 use Rattle.fields.specs.Words.{word, Words, wide}
 use Rattle.writing.specs.Binary.{bytes}
@@ -77,13 +78,13 @@ join : (a b : Bool) → a ≡ true → b ≡ true → (a && b) ≡ true
 join true b e f = f
 join false b e f = e
 
-pub of_every : (p : Shape → Bool) (ls : List Line) → every p ls ≡ true → (k : ℕ) (s : Shape) → shape_in ls k ≡ Is s → p s ≡ true
+pub of_every : (p : Shape → Bool) (ls : List Line) → every p ls ≡ true → (k : ℕ) (s : Shape) → shape_in ls k ≡ Some s → p s ≡ true
 unfolding every shape_in
 of_every p [] t k s f = impossible cc
 of_every p (l ∷ ls) t k s f = go (eqb k l.kind) f (both (p l.shape) (every p ls) t) (of_every p ls (both (p l.shape) (every p ls) t).1 k s)
   where
-    go : (b : Bool) → cond b (Is l.shape) (shape_in ls k) ≡ Is s → (p l.shape ≡ true) × (every p ls ≡ true)
-        → (shape_in ls k ≡ Is s → p s ≡ true) → p s ≡ true
+    go : (b : Bool) → cond b (Some l.shape) (shape_in ls k) ≡ Some s → (p l.shape ≡ true) × (every p ls ≡ true)
+        → (shape_in ls k ≡ Some s → p s ≡ true) → p s ≡ true
     go true f t ih = let h : l.shape ≡ s = cc in ap p (sym h) ∙ t.0
     go false f t ih = ih f
 
@@ -161,12 +162,12 @@ module _ (pool : List ℕ) (fp : Bytes pool) where
           ++ makes (judge pool) (bytes_at pool) fs (at + took (unless x (Fine (wide f) (length (bytes pool f ws)))))
           (drop (took (unless x (Fine (wide f) (length (bytes pool f ws))))) ws))
       go Right p r e ih = append-bytes (field_bytes pool (of_bytes pool fp) ws fw f (small-byte f e) p) (ih r)
-      go (Wrong w j) p r e ih = impossible cc
+      go (Err fault) p r e ih = impossible cc
 
 -- ---- rows
 
 pub row_of : (ls : List Line) → All Agrees ls → every sound ls ≡ true → (row pool : List ℕ) (size : ℕ)
-    → measured_row (shape_in ls (word row 0)) row pool ≡ Size size → Row ls row pool size
+    → measured_row (shape_in ls (word row 0)) row pool ≡ Ok size → Row ls row pool size
 unfolding row_bytes
 row_of ls agree sounds row pool size e =
     let a = accepted (shape_in ls (word row 0)) row pool size e in

@@ -1,4 +1,8 @@
 -- What holds of every row that is accepted: its size is the length of its bytes, and its walk reaches its end.
+use Rattle.std.specs.Prelude.{Ok}
+use Rattle.std.specs.Prelude.{None}
+use Rattle.std.specs.Prelude.{Some}
+use Rattle.std.specs.Prelude.{Option}
 use Prim.Native.Nat.{ℕ, ◌+◌, ◌*◌}
 use native.Mathlib.Omega.{arith}
 use mathlib.Core.Path.{◌≡◌, refl, sym, ap, ◌∙◌}
@@ -8,10 +12,8 @@ use borrow.Author.Tests.{le-ltb, eq-eqb, ne_eqb}
 use lib.Dec.{eqb, ltb}
 use lib.ListN.{length, drop}
 use Rattle.fields.specs.declared.Refusal.TheVariants as refusal
-use Rattle.fields.specs.declared.Leaf.TheVariants.{Fine}
-use Rattle.fields.specs.declared.Answer.TheVariants.{Size, Refused}
-use Rattle.fields.specs.declared.Found.{Found}
-use Rattle.fields.specs.declared.Found.TheVariants.{Is, Not}
+use Rattle.fields.specs.Leaf.{Fine}
+use Rattle.fields.specs.Answer.{Refused}
 use Rattle.fields.specs.declared.Shape.{Shape}
 use Rattle.fields.specs.Words.{word, wide}
 use Rattle.writing.specs.Judge.{judge}
@@ -27,21 +29,21 @@ use Rattle.fields.proofs.WidthLaws.{widths-append, repeated_widths}
 use Rattle.numbers.proofs.Impossible.{impossible}
 
 -- a row that is accepted has a shape, and a size by it
-pub record Accepted (found : Found) (row pool : List ℕ) (size : ℕ) : Type 0 where
+pub record Accepted (found : Option Shape) (row pool : List ℕ) (size : ℕ) : Type 0 where
   pub shape : Shape
-  pub is : found ≡ Is shape
+  pub is : found ≡ Some shape
   pub sized : Sized shape row 1 pool size
 
-pub accepted : (found : Found) (row pool : List ℕ) (size : ℕ) → measured_row found row pool ≡ Size size → Accepted found row pool size
+pub accepted : (found : Option Shape) (row pool : List ℕ) (size : ℕ) → measured_row found row pool ≡ Ok size → Accepted found row pool size
 unfolding measured_row
 accepted found row pool size e = rows (ltb 16384 (length row)) (ltb 65536 (length pool)) (eqb (length row) 0) e
   where
-    has : (f : Found) → measured_found f row pool ≡ Size size → Accepted f row pool size
-    has (Is s) e = record { shape = s; is = refl; sized = measured_sized s row 1 pool refl size e }
-    has Not e = impossible cc
+    has : (f : Option Shape) → measured_found f row pool ≡ Ok size → Accepted f row pool size
+    has (Some s) e = record { shape = s; is = refl; sized = measured_sized s row 1 pool refl size e }
+    has None e = impossible cc
 
     rows : (a b c : Bool)
-        → cond a (Refused refusal.Limit 0) (cond b (Refused refusal.Limit 0) (cond c (Refused refusal.Row 0) (measured_found found row pool))) ≡ Size size
+        → cond a (Refused refusal.Limit 0) (cond b (Refused refusal.Limit 0) (cond c (Refused refusal.Row 0) (measured_found found row pool))) ≡ Ok size
         → Accepted found row pool size
     rows true b c e = impossible cc
     rows false true c e = impossible cc
@@ -49,7 +51,7 @@ accepted found row pool size e = rows (ltb 16384 (length row)) (ltb 65536 (lengt
     rows false false false e = has found e
 
 -- a row that has a size by its shape is accepted
-pub sized-accepted : (s : Shape) (row pool : List ℕ) (size : ℕ) → Sized s row 1 pool size → measured_row (Is s) row pool ≡ Size size
+pub sized-accepted : (s : Shape) (row pool : List ℕ) (size : ℕ) → Sized s row 1 pool size → measured_row (Some s) row pool ≡ Ok size
 unfolding measured_row measured sized row_width
 sized-accepted s row pool size k =
     let some : length row ≡ 0 → ⊥ = λ z. omega (arith, k.width) in

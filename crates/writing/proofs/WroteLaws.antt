@@ -8,7 +8,7 @@ use lib.Seq.{length-sets}
 use Rattle.numbers.proofs.BytesLaws.{sets_append, store-fits, size-value}
 use Rattle.numbers.specs.Bytes.{Left, left, store}
 use Rattle.numbers.specs.Numbers.{value_of}
-use Rattle.numbers.specs.declared.bytes.Stored.{Stored}
+use Rattle.numbers.specs.Stored.{Stored}
 use Rattle.writing.specs.inside.Wrote.{Wrote}
 
 pub nothing : (l : List ℕ) (i : ℕ) → Wrote l i [] i l

@@ -1,6 +1,6 @@
 -- A table of kinds agrees with itself: what a shape writes is what the production beside it says; and what that comes to for a row.
 use Rattle.std.specs.Prelude.{ℕ, ◌≤◌, ◌≡◌, List, [], ◌∷◌, drop, length}
-use Rattle.fields.specs.declared.Leaf.TheVariants.{Fine}
+use Rattle.fields.specs.Leaf.{Fine}
 use Rattle.writing.specs.Write.{judged, written}
 use Rattle.fields.specs.Table.{Line, shape_in, production_in}
 use Rattle.numbers.specs.Bytes.{Bytes}

@@ -1,13 +1,14 @@
 -- Which words of a field are right, and the first that is not.
+use Rattle.std.specs.Prelude.{Err}
 use Rattle.std.specs.Prelude.{ℕ, ◌+◌, cond, List, eqb, ltb, leb, length}
 use Rattle.numbers.specs.Text.{text, stop}
 use Rattle.fields.specs.declared.Field.{Field}
 use Rattle.fields.specs.declared.Field.TheVariants as field
 use Rattle.fields.specs.declared.Refusal.TheVariants.{Tag, Range, Text}
-use Rattle.fields.specs.declared.Flaw.{Flaw}
-use Rattle.fields.specs.declared.Flaw.TheVariants.{Right, Wrong}
-use Rattle.fields.specs.declared.Leaf.{Leaf}
-use Rattle.fields.specs.declared.Leaf.TheVariants.{Fine, Bad}
+use Rattle.fields.specs.Flaw.{Flaw}
+use Rattle.fields.specs.Flaw.{Right, Wrong}
+use Rattle.fields.specs.Leaf.{Leaf}
+use Rattle.fields.specs.Leaf.{Fine, Bad}
 use Rattle.fields.specs.Answers.{offset_of}
 use Rattle.fields.specs.Words.{word, chars, indexed, wide}
 use Rattle.writing.specs.Binary.{bytes}
@@ -15,7 +16,7 @@ use Rattle.writing.specs.Binary.{bytes}
 -- the first of two
 abbrev pub then : Flaw → Flaw → Flaw
 then Right y = y
-then (Wrong w j) y = Wrong w j
+then (Err fault) y = Wrong fault.why fault.value
 
 -- the word at i is below n; it is 0, being unused
 abbrev pub below : ℕ → List ℕ → ℕ → Flaw
@@ -84,7 +85,7 @@ flaw pool field.SortIndex ws = below 6 ws 0
 -- what a flaw leaves of an answer
 abbrev pub unless : Flaw → Leaf → Leaf
 unless Right l = l
-unless (Wrong w j) l = Bad w j
+unless (Err fault) l = Bad fault.why fault.value
 
 -- a field that is right takes its words and makes its bytes
 unfoldable pub judge : List ℕ → Field → List ℕ → Leaf

@@ -1,12 +1,13 @@
 -- Writing a row of a shape: what is answered, and what the buffer then holds.
+use Rattle.std.specs.Prelude.{Err, Ok}
 use Rattle.std.specs.Prelude.{cond, List, ℕ, ◌+◌, eqb, ltb, leb, length, drop}
 use Rattle.std.proofs.lemmas.List.Edits.{sets}
 use Rattle.fields.specs.declared.Field.{Field}
 use Rattle.fields.specs.declared.Refusal.TheVariants as refusal
-use Rattle.fields.specs.declared.Leaf.{Leaf}
-use Rattle.fields.specs.declared.Leaf.TheVariants.{Fine, Bad}
-use Rattle.fields.specs.declared.Answer.{Answer}
-use Rattle.fields.specs.declared.Answer.TheVariants.{Size, Refused}
+use Rattle.fields.specs.Leaf.{Leaf}
+use Rattle.fields.specs.Leaf.{Fine, Bad}
+use Rattle.fields.specs.Answer.{Answer}
+use Rattle.fields.specs.Answer.{Refused}
 use Rattle.fields.specs.declared.Shape.{Shape}
 use Rattle.writing.specs.Binary.{bytes}
 use Rattle.writing.specs.Judge.{judge}
@@ -32,8 +33,8 @@ written s pool row start = outs (writer pool) (plan s) start (drop start row)
 
 -- the size of what was judged
 unfoldable pub sized : Leaf → Answer
-sized (Fine e m) = Size m
-sized (Bad w j) = Refused w j
+sized (Ok span) = Ok span.made
+sized (Err fault) = Refused fault.why fault.value
 
 -- LIMIT, then the row's length, then the fields from left to right
 unfoldable pub measured : Shape → List ℕ → ℕ → List ℕ → Answer
@@ -44,8 +45,8 @@ measured s row start pool =
 
 -- bytes of a size that was found, stored at a place: ROOM comes last
 unfoldable pub stored : Answer → List ℕ → List ℕ → ℕ → Left
-stored (Size m) bs out at = cond (leb (at + m) (length out)) (left (Size m) (sets out at bs)) (refuse refusal.Room m out)
-stored (Refused w n) bs out at = refuse w n out
+stored (Ok m) bs out at = cond (leb (at + m) (length out)) (left (Ok m) (sets out at bs)) (refuse refusal.Room m out)
+stored (Err fault) bs out at = refuse fault.why fault.value out
 
 unfoldable pub write_shape : Shape → List ℕ → ℕ → List ℕ → List ℕ → ℕ → Left
 write_shape s row start pool out at = stored (measured s row start pool) (written s pool row start) out at

@@ -1,4 +1,4 @@
-// An extern name in straight code: how many bytes it has, 0 where it is not right, and its bytes at a place.
+// An extern name in straight code: how many bytes it has, if it is right, and its bytes at a place.
 ghost use Rattle.std.specs.Prelude.{◌<◌, ◌≤◌, ◌+◌, ◌^◌, ◌∷◌, [], ◌≡◌, length};
 ghost use Rattle.std.proofs.lemmas.List.Edits.{sets};
 ghost use Rattle.numbers.specs.Bytes.{left, store};
@@ -12,7 +12,7 @@ ghost use Rattle.writing.specs.inside.Wrote.{Wrote};
 use crate::judge::{is_bare, word_at};
 use crate::size::slots_of;
 use crate::{fits, name_size, put_name};
-use numbers::{Stored, stored_size};
+use numbers::{NoRoom, stored_size};
 
 // Whether an option is right: absent, its other words unused, or present with a name.
 fn is_option(pool: &[u8], ws: &[u32], i: usize) -> bool
@@ -29,7 +29,7 @@ fn is_option(pool: &[u8], ws: &[u32], i: usize) -> bool
         return false;
     }
     if present == 1 {
-        return 0 < name_size(pool, start, size);
+        return name_size(pool, start, size).is_some();
     }
     false
 }
@@ -38,8 +38,7 @@ fn is_option(pool: &[u8], ws: &[u32], i: usize) -> bool
 fn is_right(pool: &[u8], ws: &[u32]) -> bool
     ensures { result ≡ is_right (flaw pool.now field.ExternName ws.now) }
 {
-    let name = name_size(pool, word_at(ws, 0), word_at(ws, 1));
-    if 0 < name {
+    if name_size(pool, word_at(ws, 0), word_at(ws, 1)).is_some() {
         if is_option(pool, ws, 2) {
             if is_option(pool, ws, 5) {
                 return is_option(pool, ws, 8);
@@ -49,21 +48,17 @@ fn is_right(pool: &[u8], ws: &[u32]) -> bool
     false
 }
 
-// How many bytes an extern name has, whose words stand at the front of ws; 0 where it is not right.
-pub fn extern_size(pool: &[u8], ws: &[u32]) -> usize
+// How many bytes an extern name has, whose words stand at the front of ws, if it is right.
+pub fn extern_size(pool: &[u8], ws: &[u32]) -> Option<usize>
     ensures { result ≡ right_size pool.now field.ExternName ws.now }
 {
     if is_bare(ws) {
-        let one = name_size(pool, word_at(ws, 0), word_at(ws, 1));
-        if 0 < one {
-            return 1 + one;
-        }
-        return 0;
+        return Some(1 + name_size(pool, word_at(ws, 0), word_at(ws, 1))?);
     }
     if is_right(pool, ws) {
-        return crate::size::extern_size(ws);
+        return Some(crate::size::extern_size(ws));
     }
-    0
+    None
 }
 
 // Whether an option is absent, or its name ends within the pool.
@@ -154,24 +149,24 @@ fn put_inside(pool: &[u8], ws: &[u32], out: &mut [u8], to: usize) -> usize
 }
 
 // An extern name at a place, with options or without.
-fn put_any(pool: &[u8], ws: &[u32], at: usize, out: &mut [u8]) -> Stored
+fn put_any(pool: &[u8], ws: &[u32], at: usize, out: &mut [u8]) -> Result<usize, NoRoom>
     ensures { left result out.new ≡ store (extern_part pool.now ws.now) at out.old }
 {
     let all = part_size(pool, ws);
     if fits(all, at, out.len()) {
         put_inside(pool, ws, out, at);
-        return Stored::Size(all);
+        return Ok(all);
     }
     if all == 0 {
         if at <= out.len() {
-            return Stored::Size(0);
+            return Ok(0);
         }
     }
-    Stored::Room(all)
+    Err(NoRoom { size: all })
 }
 
 // One without options, the name by itself: its tests are made once.
-fn put_bare(pool: &[u8], start: u32, size: u32, at: usize, out: &mut [u8]) -> Stored
+fn put_bare(pool: &[u8], start: u32, size: u32, at: usize, out: &mut [u8]) -> Result<usize, NoRoom>
     ensures { left result out.new ≡ store (extern_part pool.now (start ∷ size ∷ [])) at out.old }
 {
     let from = start as usize;
@@ -182,19 +177,19 @@ fn put_bare(pool: &[u8], start: u32, size: u32, at: usize, out: &mut [u8]) -> St
     let head = 1 + numbers::unsigned_size(size);
     let all = head + (size as usize);
     if out.len() < at {
-        return Stored::Room(all);
+        return Err(NoRoom { size: all });
     }
     if out.len() - at < all {
-        return Stored::Room(all);
+        return Err(NoRoom { size: all });
     }
     out[at] = 0x00;
-    numbers::put_unsigned(size, at + 1, out);
-    numbers::copy(&pool[from..end], at + head, out);
-    Stored::Size(all)
+    let _ = numbers::put_unsigned(size, at + 1, out);
+    let _ = numbers::copy(&pool[from..end], at + head, out);
+    Ok(all)
 }
 
 // An extern name at a place: 00 and a name, or 02, a name, a count and options; nothing where a name runs past the pool.
-pub fn put_extern(pool: &[u8], ws: &[u32], at: usize, out: &mut [u8]) -> Stored
+pub fn put_extern(pool: &[u8], ws: &[u32], at: usize, out: &mut [u8]) -> Result<usize, NoRoom>
     ensures { left result out.new ≡ store (extern_part pool.now ws.now) at out.old }
 {
     if ws.len() < 11 {

@@ -4,8 +4,8 @@ ghost use Rattle.fields.specs.Words.{wide};
 ghost use Rattle.writing.specs.Judge.{then, below, unused, value, optional_value, named, optional_index, choice, optional_name, reference, flaw};
 ghost use Rattle.writing.specs.inside.Extern.{option_words};
 
-use fields::{Field, Flaw, Refusal, is_indexed, offset_of};
-use numbers::Spelling;
+use fields::{Fault, Field, Refusal, is_indexed, offset_of};
+use numbers::NotText;
 
 // How many words a field has.
 pub fn wide_of(f: Field) -> usize
@@ -44,25 +44,31 @@ pub fn word_at(ws: &[u32], i: usize) -> u32
     0
 }
 
-fn below_at(n: u32, ws: &[u32], i: usize) -> Flaw
+fn below_at(n: u32, ws: &[u32], i: usize) -> Result<(), Fault>
     ensures { result ≡ below n ws.now i }
 {
     if word_at(ws, i) < n {
-        return Flaw::Right;
+        return Ok(());
     }
-    Flaw::Wrong(Refusal::Tag, i)
+    Err(Fault {
+        why: Refusal::Tag,
+        value: i,
+    })
 }
 
-fn unused_at(ws: &[u32], i: usize) -> Flaw
+fn unused_at(ws: &[u32], i: usize) -> Result<(), Fault>
     ensures { result ≡ unused ws.now i }
 {
     if word_at(ws, i) == 0 {
-        return Flaw::Right;
+        return Ok(());
     }
-    Flaw::Wrong(Refusal::Tag, i)
+    Err(Fault {
+        why: Refusal::Tag,
+        value: i,
+    })
 }
 
-fn value_at(ws: &[u32], i: usize) -> Flaw
+fn value_at(ws: &[u32], i: usize) -> Result<(), Fault>
     requires { i < 2 ^ 42 }
     ensures { result ≡ value ws.now i }
 {
@@ -71,12 +77,15 @@ fn value_at(ws: &[u32], i: usize) -> Flaw
         return below_at(14, ws, i + 1);
     }
     if tag == 1 {
-        return Flaw::Right;
+        return Ok(());
     }
-    Flaw::Wrong(Refusal::Tag, i)
+    Err(Fault {
+        why: Refusal::Tag,
+        value: i,
+    })
 }
 
-fn optional_value_at(ws: &[u32], i: usize) -> Flaw
+fn optional_value_at(ws: &[u32], i: usize) -> Result<(), Fault>
     requires { i < 2 ^ 42 }
     ensures { result ≡ optional_value ws.now i }
 {
@@ -86,7 +95,7 @@ fn optional_value_at(ws: &[u32], i: usize) -> Flaw
     value_at(ws, i)
 }
 
-fn named_at(pool: &[u8], ws: &[u32], i: usize) -> Flaw
+fn named_at(pool: &[u8], ws: &[u32], i: usize) -> Result<(), Fault>
     requires { i < 2 ^ 42 }
     ensures { result ≡ named pool.now ws.now i }
 {
@@ -94,15 +103,21 @@ fn named_at(pool: &[u8], ws: &[u32], i: usize) -> Flaw
     let size = word_at(ws, i + 1) as usize;
     let end = start + size;
     if pool.len() < end {
-        return Flaw::Wrong(Refusal::Range, i);
+        return Err(Fault {
+            why: Refusal::Range,
+            value: i,
+        });
     }
     match numbers::spelling_of(&pool[start..end]) {
-        Spelling::Right => Flaw::Right,
-        Spelling::Stops(byte) => Flaw::Wrong(Refusal::Text(offset_of(byte as u32)), i),
+        Ok(()) => Ok(()),
+        Err(NotText { stop: byte }) => Err(Fault {
+            why: Refusal::Text(offset_of(byte as u32)),
+            value: i,
+        }),
     }
 }
 
-fn optional_index_of(ws: &[u32]) -> Flaw
+fn optional_index_of(ws: &[u32]) -> Result<(), Fault>
     ensures { result ≡ optional_index ws.now }
 {
     let present = word_at(ws, 0);
@@ -110,34 +125,37 @@ fn optional_index_of(ws: &[u32]) -> Flaw
         return unused_at(ws, 1);
     }
     if present == 1 {
-        return Flaw::Right;
+        return Ok(());
     }
-    Flaw::Wrong(Refusal::Tag, 0)
+    Err(Fault {
+        why: Refusal::Tag,
+        value: 0,
+    })
 }
 
-fn choice_of(ws: &[u32]) -> Flaw
+fn choice_of(ws: &[u32]) -> Result<(), Fault>
     ensures { result ≡ choice ws.now }
 {
     let k = word_at(ws, 0);
     if k < 10 {
         if is_indexed(k) {
-            return Flaw::Right;
+            return Ok(());
         }
         return unused_at(ws, 1);
     }
-    Flaw::Wrong(Refusal::Tag, 0)
+    Err(Fault {
+        why: Refusal::Tag,
+        value: 0,
+    })
 }
 
-fn first_flaw(a: Flaw, b: Flaw) -> Flaw
+fn first_flaw(a: Result<(), Fault>, b: Result<(), Fault>) -> Result<(), Fault>
     ensures { result ≡ then a b }
 {
-    match a {
-        Flaw::Right => b,
-        Flaw::Wrong(why, place) => Flaw::Wrong(why, place),
-    }
+    a.and(b)
 }
 
-fn optional_name_at(pool: &[u8], ws: &[u32], i: usize) -> Flaw
+fn optional_name_at(pool: &[u8], ws: &[u32], i: usize) -> Result<(), Fault>
     requires { i < 99 }
     ensures { result ≡ optional_name pool.now ws.now i }
 {
@@ -148,7 +166,10 @@ fn optional_name_at(pool: &[u8], ws: &[u32], i: usize) -> Flaw
     if present == 1 {
         return named_at(pool, ws, i + 1);
     }
-    Flaw::Wrong(Refusal::Tag, i)
+    Err(Fault {
+        why: Refusal::Tag,
+        value: i,
+    })
 }
 
 // The three words of an option together: 0 where each is.
@@ -176,7 +197,7 @@ pub fn is_bare(ws: &[u32]) -> bool
     false
 }
 
-pub fn extern_name_of(pool: &[u8], ws: &[u32]) -> Flaw
+pub fn extern_name_of(pool: &[u8], ws: &[u32]) -> Result<(), Fault>
     ensures { result ≡ flaw pool.now Field.ExternName ws.now }
 {
     let name = named_at(pool, ws, 0);
@@ -189,7 +210,7 @@ pub fn extern_name_of(pool: &[u8], ws: &[u32]) -> Flaw
     first_flaw(name, first_flaw(implements, first_flaw(suffix, id)))
 }
 
-fn reference_of(ws: &[u32]) -> Flaw
+fn reference_of(ws: &[u32]) -> Result<(), Fault>
     ensures { result ≡ reference ws.now }
 {
     let sort = word_at(ws, 0);
@@ -199,33 +220,39 @@ fn reference_of(ws: &[u32]) -> Flaw
     if sort == 3 {
         let bound = word_at(ws, 1);
         if bound == 0 {
-            return Flaw::Right;
+            return Ok(());
         }
         if bound == 1 {
             return unused_at(ws, 2);
         }
-        return Flaw::Wrong(Refusal::Tag, 1);
+        return Err(Fault {
+            why: Refusal::Tag,
+            value: 1,
+        });
     }
     if sort < 6 {
         return unused_at(ws, 2);
     }
-    Flaw::Wrong(Refusal::Tag, 0)
+    Err(Fault {
+        why: Refusal::Tag,
+        value: 0,
+    })
 }
 
 // The first word of a field that is not right.
-pub fn flaw_of(f: Field, pool: &[u8], ws: &[u32]) -> Flaw
+pub fn flaw_of(f: Field, pool: &[u8], ws: &[u32]) -> Result<(), Fault>
     ensures { result ≡ flaw pool.now f ws.now }
 {
     match f {
-        Field::Nothing => Flaw::Right,
-        Field::Fixed(_) => Flaw::Right,
+        Field::Nothing => Ok(()),
+        Field::Fixed(_) => Ok(()),
         Field::Primitive => below_at(14, ws, 0),
         Field::Value => value_at(ws, 0),
         Field::Optional => optional_value_at(ws, 0),
         Field::OptionalThenZero => optional_value_at(ws, 0),
         Field::Result => optional_value_at(ws, 0),
         Field::Name => named_at(pool, ws, 0),
-        Field::Index => Flaw::Right,
+        Field::Index => Ok(()),
         Field::Async => below_at(2, ws, 0),
         Field::Flag => below_at(2, ws, 0),
         Field::Rep => below_at(2, ws, 0),
@@ -233,7 +260,7 @@ pub fn flaw_of(f: Field, pool: &[u8], ws: &[u32]) -> Flaw
         Field::Choice => choice_of(ws),
         Field::ExternName => extern_name_of(pool, ws),
         Field::Reference => reference_of(ws),
-        Field::Argument => Flaw::Right,
+        Field::Argument => Ok(()),
         Field::CoreSortIndex => below_at(5, ws, 0),
         Field::SortIndex => below_at(6, ws, 0),
     }

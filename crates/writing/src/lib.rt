@@ -16,7 +16,7 @@ ghost use Rattle.writing.specs.Binary.{primvaltype, valtype};
 ghost use Rattle.writing.specs.Sizes.{within, right_size};
 
 pub use extern_name::{extern_size, put_extern};
-use numbers::Stored;
+use numbers::NoRoom;
 pub use row::measure_row;
 pub use shape::measure_shape;
 
@@ -32,33 +32,33 @@ pub fn fits(size: usize, at: usize, room: usize) -> bool
     false
 }
 
-// How many bytes a V has, 0 where it is not right.
-pub fn value_size(tag: u32, x: u32) -> usize
+// How many bytes a V has, if it is right.
+pub fn value_size(tag: u32, x: u32) -> Option<usize>
     ensures { result ≡ right_size [] field.Value (tag ∷ x ∷ []) }
 {
     if tag == 1 {
-        return numbers::signed_size(x);
+        return Some(numbers::signed_size(x));
     }
     if tag == 0 {
         if x < 14 {
-            return 1;
+            return Some(1);
         }
     }
-    0
+    None
 }
 
 // How many bytes a name has, 0 where it does not end within the pool or is not UTF-8.
-pub fn name_size(pool: &[u8], start: u32, size: u32) -> usize
+pub fn name_size(pool: &[u8], start: u32, size: u32) -> Option<usize>
     ensures { result ≡ right_size pool.now field.Name (start ∷ size ∷ []) }
 {
     let from = start as usize;
     let end = from + (size as usize);
     if end <= pool.len() {
         if numbers::is_text(&pool[from..end]) {
-            return numbers::unsigned_size(size) + (size as usize);
+            return Some(numbers::unsigned_size(size) + (size as usize));
         }
     }
-    0
+    None
 }
 
 fn primitive_byte(p: u32) -> u8
@@ -73,18 +73,18 @@ fn primitive_byte(p: u32) -> u8
     0
 }
 
-fn put_byte(b: u8, at: usize, out: &mut [u8]) -> Stored
+fn put_byte(b: u8, at: usize, out: &mut [u8]) -> Result<usize, NoRoom>
     ensures { left result out.new ≡ store (b ∷ []) at out.old }
 {
     if at < out.len() {
         out[at] = b;
-        return Stored::Size(1);
+        return Ok(1);
     }
-    Stored::Room(1)
+    Err(NoRoom { size: 1 })
 }
 
 // A V at a place: a primitive's byte, or an index as an s33.
-pub fn put_value(tag: u32, x: u32, at: usize, out: &mut [u8]) -> Stored
+pub fn put_value(tag: u32, x: u32, at: usize, out: &mut [u8]) -> Result<usize, NoRoom>
     ensures { left result out.new ≡ store (valtype tag x) at out.old }
 {
     if tag == 0 {
@@ -94,7 +94,13 @@ pub fn put_value(tag: u32, x: u32, at: usize, out: &mut [u8]) -> Stored
 }
 
 // A name at a place: its length, and its bytes in the pool, none where they run past it.
-pub fn put_name(pool: &[u8], start: u32, size: u32, at: usize, out: &mut [u8]) -> Stored
+pub fn put_name(
+    pool: &[u8],
+    start: u32,
+    size: u32,
+    at: usize,
+    out: &mut [u8],
+) -> Result<usize, NoRoom>
     ensures { left result out.new ≡ store (unsigned size ++ part_of pool.now start size) at out.old }
 {
     let from = start as usize;
@@ -105,12 +111,12 @@ pub fn put_name(pool: &[u8], start: u32, size: u32, at: usize, out: &mut [u8]) -
     let head = numbers::unsigned_size(size);
     let all = head + (size as usize);
     if out.len() < at {
-        return Stored::Room(all);
+        return Err(NoRoom { size: all });
     }
     if out.len() - at < all {
-        return Stored::Room(all);
+        return Err(NoRoom { size: all });
     }
-    numbers::put_unsigned(size, at, out);
-    numbers::copy(&pool[from..end], at + head, out);
-    Stored::Size(all)
+    let _ = numbers::put_unsigned(size, at, out);
+    let _ = numbers::copy(&pool[from..end], at + head, out);
+    Ok(all)
 }

@@ -6,7 +6,7 @@ ghost use Rattle.fields.specs.Limits.{row_words, pool_bytes};
 
 use crate::judge::{wide_of, word_at};
 use crate::walk::judge_shape;
-use fields::{Answer, Leaf, POOL_BYTES, ROW_WORDS, Refusal, Shape};
+use fields::{Answer, Fault, POOL_BYTES, ROW_WORDS, Refusal, Shape, Span};
 
 fn width_of(s: Shape, row: &[u32], start: usize) -> usize
     requires { start ≤ row_words }
@@ -28,15 +28,13 @@ fn width_of(s: Shape, row: &[u32], start: usize) -> usize
 }
 
 // The size of a row's fields from `start` on, whose words are as many as they need.
+#[tactic(auto, unfolding(crate::specs::Write::sized))]
 fn measure_fields(s: Shape, row: &[u32], start: usize, pool: &[u8]) -> Answer
     requires pool_len_bound { (length pool.now ≤ pool_bytes) × (length row.now ≤ row_words) }
     requires start_value { row_width s row.now start ≡ length row.now }
     ensures { result ≡ sized (judged s pool.now row.now start) }
 {
-    match judge_shape(s, pool, row, start) {
-        Leaf::Fine(_, size) => Answer::Size(size),
-        Leaf::Bad(why, place) => Answer::Refused(why, place),
-    }
+    Ok(judge_shape(s, pool, row, start)?.made)
 }
 
 // The size of a row's fields from `start` on, or why the row is refused, room apart.
@@ -44,16 +42,28 @@ pub fn measure_shape(s: Shape, row: &[u32], start: usize, pool: &[u8]) -> Answer
     ensures { result ≡ measured s row.now start pool.now }
 {
     if ROW_WORDS < row.len() {
-        return Answer::Refused(Refusal::Limit, 0);
+        return Err(Fault {
+            why: Refusal::Limit,
+            value: 0,
+        });
     }
     if POOL_BYTES < pool.len() {
-        return Answer::Refused(Refusal::Limit, 0);
+        return Err(Fault {
+            why: Refusal::Limit,
+            value: 0,
+        });
     }
     if row.len() < start {
-        return Answer::Refused(Refusal::Row, 0);
+        return Err(Fault {
+            why: Refusal::Row,
+            value: 0,
+        });
     }
     if width_of(s, row, start) == row.len() {
         return measure_fields(s, row, start, pool);
     }
-    Answer::Refused(Refusal::Row, 0)
+    Err(Fault {
+        why: Refusal::Row,
+        value: 0,
+    })
 }

@@ -9,7 +9,7 @@ ghost use Rattle.fields.specs.Limits.{row_words, pool_bytes};
 
 use crate::judge::{flaw_of, wide_of, word_at};
 use crate::size::size_of;
-use fields::{Field, Flaw, Leaf, Shape};
+use fields::{Fault, Field, Shape, Span};
 
 // The row from `at` on, nothing past its end.
 fn rest_of(row: &[u32], at: usize) -> &[u32]
@@ -23,7 +23,7 @@ fn rest_of(row: &[u32], at: usize) -> &[u32]
 }
 
 // One field at `at`, with `made` bytes before it.
-fn judge_one(f: Field, pool: &[u8], row: &[u32], at: usize, made: usize) -> Leaf
+fn judge_one(f: Field, pool: &[u8], row: &[u32], at: usize, made: usize) -> Result<Span, Fault>
     requires pool_len_bound { length pool.now ≤ pool_bytes }
     requires at_bound { (at ≤ 2 ^ 41) × (made ≤ 2 ^ 61) }
     ensures { result ≡ along (judge pool.now) (f ∷ []) (drop at row.now) at made }
@@ -32,28 +32,35 @@ fn judge_one(f: Field, pool: &[u8], row: &[u32], at: usize, made: usize) -> Leaf
     let next = at + wide_of(f);
     let size = made + size_of(f, ws);
     match flaw_of(f, pool, ws) {
-        Flaw::Right => Leaf::Fine(next, size),
-        Flaw::Wrong(why, word) => {
+        Ok(()) => Ok(Span {
+            took: next,
+            made: size,
+        }),
+        Err(Fault { why, value: word }) => {
             let place = at + word;
-            Leaf::Bad(why, place)
+            Err(Fault { why, value: place })
         }
     }
 }
 
 // One field more, after what was judged before it.
-fn judge_next(so: Leaf, f: Field, pool: &[u8], row: &[u32]) -> Leaf
+fn judge_next(so: Result<Span, Fault>, f: Field, pool: &[u8], row: &[u32]) -> Result<Span, Fault>
     requires pool_len_bound { length pool.now ≤ pool_bytes }
     requires under { Under so (2 ^ 41) (2 ^ 61) }
     ensures { result ≡ after so (λ at made. along (judge pool.now) (f ∷ []) (drop at row.now) at made) }
 {
-    match so {
-        Leaf::Fine(at, made) => judge_one(f, pool, row, at, made),
-        Leaf::Bad(why, place) => Leaf::Bad(why, place),
-    }
+    let Span { took: at, made } = so?;
+    judge_one(f, pool, row, at, made)
 }
 
 // Two fields more, after what was judged before them.
-fn judge_two(so: Leaf, a: Field, b: Field, pool: &[u8], row: &[u32]) -> Leaf
+fn judge_two(
+    so: Result<Span, Fault>,
+    a: Field,
+    b: Field,
+    pool: &[u8],
+    row: &[u32],
+) -> Result<Span, Fault>
     requires pool_len_bound { length pool.now ≤ pool_bytes }
     requires under { Under so (2 ^ 40) (2 ^ 60) }
     ensures { result ≡ after so (λ at made. along (judge pool.now) (a ∷ b ∷ []) (drop at row.now) at made) }
@@ -63,7 +70,14 @@ fn judge_two(so: Leaf, a: Field, b: Field, pool: &[u8], row: &[u32]) -> Leaf
 }
 
 // n groups from `at` on, with `made` bytes before them.
-fn judge_groups(s: Shape, n: usize, pool: &[u8], row: &[u32], from: usize, base: usize) -> Leaf
+fn judge_groups(
+    s: Shape,
+    n: usize,
+    pool: &[u8],
+    row: &[u32],
+    from: usize,
+    base: usize,
+) -> Result<Span, Fault>
     requires pool_len_bound { length pool.now ≤ pool_bytes }
     requires n_bound { (n < 2 ^ 32) × (n * widths (group s) ≤ row_words) }
     requires from_bound { (from ≤ 2 ^ 20) × (base ≤ 2 ^ 40) }
@@ -75,31 +89,17 @@ fn judge_groups(s: Shape, n: usize, pool: &[u8], row: &[u32], from: usize, base:
     let mut made = base;
     let mut i: usize = 0;
     while i < n {
-        match judge_one(one, pool, row, at, made) {
-            Leaf::Fine(next, size) => {
-                at = next;
-                made = size;
-            }
-            Leaf::Bad(why, place) => {
-                return Leaf::Bad(why, place);
-            }
-        }
-        match judge_one(two, pool, row, at, made) {
-            Leaf::Fine(next, size) => {
-                at = next;
-                made = size;
-            }
-            Leaf::Bad(why, place) => {
-                return Leaf::Bad(why, place);
-            }
-        }
+        let first = judge_one(one, pool, row, at, made)?;
+        let second = judge_one(two, pool, row, first.took, first.made)?;
+        at = second.took;
+        made = second.made;
         i += 1;
     }
-    Leaf::Fine(at, made)
+    Ok(Span { took: at, made })
 }
 
 // The count at `at`, as many groups, and the closing.
-fn judge_counted(s: Shape, pool: &[u8], row: &[u32], at: usize, made: usize) -> Leaf
+fn judge_counted(s: Shape, pool: &[u8], row: &[u32], at: usize, made: usize) -> Result<Span, Fault>
     requires pool_len_bound { length pool.now ≤ pool_bytes }
     requires s_bound { get_or row.now at 0 * widths (group s) ≤ row_words }
     requires at_bound { (at < 2 ^ 20) × (made ≤ 2 ^ 39) }
@@ -114,7 +114,7 @@ fn judge_counted(s: Shape, pool: &[u8], row: &[u32], at: usize, made: usize) -> 
 }
 
 // The fields of a row from `start` on.
-pub fn judge_shape(s: Shape, pool: &[u8], row: &[u32], start: usize) -> Leaf
+pub fn judge_shape(s: Shape, pool: &[u8], row: &[u32], start: usize) -> Result<Span, Fault>
     requires pool_len_bound { (length pool.now ≤ pool_bytes) × (length row.now ≤ row_words) }
     requires start_value { row_width s row.now start ≡ length row.now }
     ensures { result ≡ judged s pool.now row.now start }
@@ -124,13 +124,20 @@ pub fn judge_shape(s: Shape, pool: &[u8], row: &[u32], start: usize) -> Leaf
     let first = s.first;
     let second = s.second;
     let last = s.last;
-    let leads = judge_two(Leaf::Fine(start, 0), lead, zero, pool, row);
+    let leads = judge_two(
+        Ok(Span {
+            took: start,
+            made: 0,
+        }),
+        lead,
+        zero,
+        pool,
+        row,
+    );
     let opening = judge_two(leads, first, second, pool, row);
     if s.counted {
-        return match opening {
-            Leaf::Fine(at, made) => judge_counted(s, pool, row, at, made),
-            Leaf::Bad(why, place) => Leaf::Bad(why, place),
-        };
+        let Span { took: at, made } = opening?;
+        return judge_counted(s, pool, row, at, made);
     }
     judge_next(opening, last, pool, row)
 }

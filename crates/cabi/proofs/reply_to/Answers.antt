@@ -2,10 +2,10 @@
 use Rattle.fields.specs.Answers.{number_of, value_of, byte_of}
 use Rattle.cabi.proofs.reply_to.Goals as goal
 
-pub returns-in-Size : goal.returns-in-Size
+pub returns-in-Ok : goal.returns-in-Ok
 unfolding number_of value_of byte_of
-returns-in-Size c = simp c.in-Size.is
+returns-in-Ok c = simp c.in-Ok.is
 
-pub returns-in-Refused : goal.returns-in-Refused
+pub returns-in-Err : goal.returns-in-Err
 unfolding number_of value_of byte_of
-returns-in-Refused c = simp (c.in-Refused.is, c.number_of.ensures, c.byte_of.ensures)
+returns-in-Err c = simp (c.in-Err.is, c.number_of.ensures, c.byte_of.ensures)

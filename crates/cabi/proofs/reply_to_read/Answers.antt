@@ -5,10 +5,10 @@ use Rattle.reading.specs.inside.Few.{Few}
 use Rattle.cabi.proofs.reply_to_read.Goals as goal
 
 pub overflow_cast-result : goal.overflow_cast-result
-overflow_cast-result c = let few = subst Few c.in-Item.is c.requires in omega arith
+overflow_cast-result c = let few = subst Few c.in-Ok.is c.requires in omega arith
 
-pub returns-in-Item : goal.returns-in-Item
-returns-in-Item c = simp c.in-Item.is
+pub returns-in-Ok : goal.returns-in-Ok
+returns-in-Ok c = simp c.in-Ok.is
 
-pub returns-in-Refused : goal.returns-in-Refused
-returns-in-Refused c = simp (c.in-Refused.is, c.number_of.ensures, c.byte_of.ensures)
+pub returns-in-Err : goal.returns-in-Err
+returns-in-Err c = simp (c.in-Err.is, c.number_of.ensures, c.byte_of.ensures)

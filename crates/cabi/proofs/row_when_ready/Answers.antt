@@ -9,13 +9,13 @@ overflow_cast-family c = omega (arith, ready_small c.requires)
 pub overflow_add-grown : goal.overflow_add-grown
 overflow_add-grown c =
     let a = c.args in
-    let fits = ready-fits a.state.now a.row.now a.pool.now a.body.now c.write_by.ensures c.in-Size.is (omega arith) in
+    let fits = ready-fits a.state.now a.row.now a.pool.now a.body.now c.write_by.ensures c.in-Ok.is (omega arith) in
     omega arith
 
-pub returns-in-Size : goal.returns-in-Size
-returns-in-Size c =
-    row_written _ _ _ c.requires c.write_by.ensures c.in-Size.is
+pub returns-in-Ok : goal.returns-in-Ok
+returns-in-Ok c =
+    row_written _ _ _ c.requires c.write_by.ensures c.in-Ok.is
 
-pub returns-in-Refused : goal.returns-in-Refused
-returns-in-Refused c =
-    row_refused _ _ _ c.requires c.write_by.ensures c.in-Refused.is c.reply_to.ensures
+pub returns-in-Err : goal.returns-in-Err
+returns-in-Err c =
+    row_refused _ _ _ c.requires c.write_by.ensures c.in-Err.is c.reply_to.ensures

@@ -1,4 +1,5 @@
 -- The first byte of a canonical, and the byte 00 that some have behind it: what stands from a place on.
+use Rattle.std.specs.Prelude.{Option, Some, None}
 use Rattle.std.specs.Prelude.{Bool, false, cond, ℕ, List, ◌∷◌, ◌≡◌, eqb, leb, length, drop}
 use Rattle.fields.specs.declared.Field.{Field}
 use Rattle.fields.specs.declared.Field.TheVariants as field
@@ -12,9 +13,9 @@ pub record Begun (lead g b : ℕ) (z : Field) (input : List ℕ) (from : ℕ) : 
   pub fill_is : (fs : List Field)
       → makes (scan lead g) (fill g) (field.Fixed b ∷ z ∷ fs) 0 input ≡ makes (scan lead g) (fill g) fs from (drop from input)
 
--- a byte 00 behind the first: the place past it, 0 where there is none
+-- a byte 00 behind the first: the place past it, if there is one
 unfoldable pub has_zero : List ℕ → Bool
 has_zero input = cond (leb (length input) 1) false (eqb (byte input 1) 0)
 
-unfoldable pub behind_zero : List ℕ → ℕ
-behind_zero input = cond (has_zero input) 2 0
+unfoldable pub behind_zero : List ℕ → Option ℕ
+behind_zero input = cond (has_zero input) (Some 2) None

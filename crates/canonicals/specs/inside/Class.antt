@@ -1,13 +1,11 @@
 -- Canonicals of one class have the same fields behind their leads: their shape, which rows are right, and their bytes. The same of a
 -- lift, and what straight code leaves.
-use Rattle.std.specs.Prelude.{ℕ, zero, suc, ◌+◌, ◌*◌, ◌≤◌, ◌<◌, ◌≡◌, List, [], ◌∷◌, ◌++◌, length, drop}
+use Rattle.std.specs.Prelude.{ℕ, zero, suc, ◌+◌, ◌*◌, ◌≤◌, ◌<◌, ◌≡◌, Option, Some, None, Ok, List, [], ◌∷◌, ◌++◌, length, drop}
+use Rattle.fields.specs.declared.Shape.{Shape}
 use Rattle.std.proofs.lemmas.List.Edits.{sets}
 use Rattle.numbers.specs.Leb.{unsigned}
-use Rattle.fields.specs.declared.Answer.TheVariants.{Size}
 use Rattle.fields.specs.declared.Field.TheVariants as field
-use Rattle.fields.specs.declared.Found.{Found}
-use Rattle.fields.specs.declared.Found.TheVariants.{Is, Not}
-use Rattle.fields.specs.declared.Flaw.TheVariants.{Right}
+use Rattle.fields.specs.Flaw.{Right}
 use Rattle.fields.specs.Words.{word}
 use Rattle.writing.specs.Binary.{flag, representation, canonopt}
 use Rattle.writing.specs.Judge.{choice}
@@ -20,18 +18,18 @@ use Rattle.canonicals.specs.declared.Class.TheVariants as class
 use Rattle.canonicals.specs.Table.{plain, zeroed, optioned, lift_shape, lift}
 use Rattle.fields.specs.Limits.{row_words, pool_bytes}
 
-unfoldable pub shape_for : Class → ℕ → Found
-shape_for class.Nothing lead = Is (plain lead field.Nothing field.Nothing)
-shape_for class.Zero lead = Is (zeroed lead field.Nothing)
-shape_for class.Index lead = Is (plain lead field.Index field.Nothing)
-shape_for class.ZeroIndex lead = Is (zeroed lead field.Index)
-shape_for class.Indices lead = Is (plain lead field.Index field.Index)
-shape_for class.Flag lead = Is (plain lead field.Flag field.Nothing)
-shape_for class.IndexFlag lead = Is (plain lead field.Index field.Flag)
-shape_for class.RepIndex lead = Is (plain lead field.Rep field.Index)
-shape_for class.Options lead = Is (optioned lead field.Nothing)
-shape_for class.ZeroOptions lead = Is (optioned lead (field.Fixed 0x00))
-shape_for class.Not lead = Not
+unfoldable pub shape_for : Class → ℕ → Option Shape
+shape_for class.Nothing lead = Some (plain lead field.Nothing field.Nothing)
+shape_for class.Zero lead = Some (zeroed lead field.Nothing)
+shape_for class.Index lead = Some (plain lead field.Index field.Nothing)
+shape_for class.ZeroIndex lead = Some (zeroed lead field.Index)
+shape_for class.Indices lead = Some (plain lead field.Index field.Index)
+shape_for class.Flag lead = Some (plain lead field.Flag field.Nothing)
+shape_for class.IndexFlag lead = Some (plain lead field.Index field.Flag)
+shape_for class.RepIndex lead = Some (plain lead field.Rep field.Index)
+shape_for class.Options lead = Some (optioned lead field.Nothing)
+shape_for class.ZeroOptions lead = Some (optioned lead (field.Fixed 0x00))
+shape_for class.Not lead = None
 
 -- n options, whose words stand one after the other: that they are right, and their bytes
 unfoldable pub Choices : ℕ → List ℕ → Type 0
@@ -104,12 +102,12 @@ pub record Known (c : Class) (row : List ℕ) (r : ℕ) : Type 0 where
   pub right : Good c row
   pub size : r ≡ size_for c row
 
--- it was seen to be right and stored in r bytes, or nothing was done
-pub record Put (c : Class) (lead : ℕ) (row old : List ℕ) (at r : ℕ) (new : List ℕ) : Type 0 where
-  pub none : r ≡ 0 → new ≡ old
-  pub seen : 0 < r → Known c row r
-  pub room : 0 < r → at + r ≤ length old
-  pub content : 0 < r → new ≡ sets old at (bytes_for c lead row)
+-- it was seen to be right and stored in so many bytes, or nothing was done
+pub record Put (c : Class) (lead : ℕ) (row old : List ℕ) (at : ℕ) (r : Option ℕ) (new : List ℕ) : Type 0 where
+  pub none : r ≡ None → new ≡ old
+  pub seen : (n : ℕ) → r ≡ Some n → Known c row n
+  pub room : (n : ℕ) → r ≡ Some n → at + n ≤ length old
+  pub content : (n : ℕ) → r ≡ Some n → new ≡ sets old at (bytes_for c lead row)
 
 -- a lift, whose options stand before its type
 pub record Lifted (row pool : List ℕ) : Type 0 where
@@ -128,6 +126,6 @@ abbrev pub lifted_size : List ℕ → ℕ
 lifted_size row = length (unsigned (word row 1)) + length (unsigned (word row 2)) + counted_size row
 
 -- the lift was written, or nothing was done
-pub record LiftTried (row pool old : List ℕ) (at r : ℕ) (new : List ℕ) : Type 0 where
-  pub none : r ≡ 0 → new ≡ old
-  pub some : 0 < r → left (Size r) new ≡ stored (measured_row (Is lift_shape) row pool) (lift (drop 1 row)) old at
+pub record LiftTried (row pool old : List ℕ) (at : ℕ) (r : Option ℕ) (new : List ℕ) : Type 0 where
+  pub none : r ≡ None → new ≡ old
+  pub some : (n : ℕ) → r ≡ Some n → left (Ok n) new ≡ stored (measured_row (Some lift_shape) row pool) (lift (drop 1 row)) old at

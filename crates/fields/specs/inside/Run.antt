@@ -1,8 +1,9 @@
 -- A walk over a list of fields, as a loop makes it.
+use Rattle.std.specs.Prelude.{Err, Ok}
 use Rattle.std.specs.Prelude.{List, [], ◌∷◌, ◌++◌, ℕ, ◌+◌, ◌≤◌, drop}
 use Rattle.fields.specs.declared.Field.{Field}
-use Rattle.fields.specs.declared.Leaf.{Leaf}
-use Rattle.fields.specs.declared.Leaf.TheVariants.{Fine, Bad}
+use Rattle.fields.specs.Leaf.{Leaf}
+use Rattle.fields.specs.Leaf.{Fine, Bad}
 use Rattle.fields.specs.Walk.{next, took}
 
 -- the fields from `at` on, with `made` elements made so far
@@ -21,10 +22,10 @@ makes L B (f ∷ fs) at xs = B f at xs ++ makes L B fs (at + took (L f xs)) (dro
 
 -- what follows a walk
 abbrev pub after : Leaf → (ℕ → ℕ → Leaf) → Leaf
-after (Fine at made) k = k at made
-after (Bad w j) k = Bad w j
+after (Ok span) k = k span.took span.made
+after (Err fault) k = Bad fault.why fault.value
 
 -- a walk that ends, ends at a or before, with b elements made at most
 abbrev pub Under : Leaf → ℕ → ℕ → Type 0
-Under (Fine at made) a b = (at ≤ a) × (made ≤ b)
-Under (Bad w j) a b = Unit {0}
+Under (Ok span) a b = (span.took ≤ a) × (span.made ≤ b)
+Under (Err fault) a b = Unit {0}

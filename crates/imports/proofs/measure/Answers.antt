@@ -4,13 +4,12 @@ use Rattle.imports.specs.Write.{measured_import}
 use Rattle.imports.proofs.ImportLaws.{measured_as}
 use Rattle.imports.proofs.measure.Goals as goal
 
-pub returns-then-size-gt0 : goal.returns-then-size-gt0
-returns-then-size-gt0 c =
-    let a = c.args in
-    let pool = a.pool.now in
-    let row = a.row.now in
-    measured_as row pool c.kind_of-kind.ensures c.if-kind-eq17.true (c.import_size-size.ensures
-    c.if-size-gt0.true)
+pub returns-in-Some : goal.returns-in-Some
+returns-in-Some c =
+    let row = c.args.row.now in
+    let pool = c.args.pool.now in
+    measured_as row pool c.kind_of-kind.ensures c.if-kind-eq17.true
+    (rw c.in-Some.is at c.import_size.ensures)
 
 pub returns : goal.returns
 unfolding measured_import

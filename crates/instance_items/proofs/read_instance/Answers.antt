@@ -1,35 +1,39 @@
--- `read_instance` meets its contract: within the limits it answers what was read by the kind (`read_some`), and where that is nothing, and outside
--- the limits, it refuses as `reading` says (`read_none`, `read_outside`).
-use mathlib.Core.Path.{◌≡◌, ◌∙◌, sym, ap, subst}
-use Rattle.numbers.proofs.BytesLaws.{to_end}
+-- `read_instance` meets its contract: a byte of no kind is refused (`own_unknown`); of a kind, within the limits, it answers what was read by
+-- the kind (`read_some`), and where that is nothing, and outside the limits, it refuses as `reading` says (`read_none`, `read_outside`).
+use mathlib.Core.Path.{◌≡◌, ◌∙◌, sym, ap}
+use Rattle.std.specs.Prelude.{Some}
 use Rattle.fields.specs.Answers.{left_row}
 use Rattle.reading.specs.Read.{scanned_item, refusal_of}
 use Rattle.instances.specs.Write.{shape_of}
-use Rattle.instance_items.specs.inside.Group.{shape_by, Begins}
-use Rattle.instance_items.proofs.CallLaws.{own_shape, own_begins, part_limits, read_some, read_none, read_outside, own_call}
+use Rattle.instance_items.specs.ReadInstance.{kind_of, some_kind}
+use Rattle.instance_items.proofs.CallLaws.{own_shape, own_begins, call_limits, read_some, read_none, read_outside, own_call, own_unknown}
 use Rattle.instance_items.proofs.read_instance.Goals as goal
-use Rattle.instance_items.proofs.read_instance.Goals.{After-kind_of-kind, then-is_within+in-Not, else-is_within}
+use Rattle.instance_items.proofs.read_instance.Goals.{In-Some, then-is_within+in_default-by_kind, else-is_within}
 
--- the shape of the kind that was found, which begins with its byte
-shape_is : (c : After-kind_of-kind) → shape_by c.kind_of-kind.result ≡ shape_of c.kind_of-kind.result
-shape_is c = subst (λ k. shape_by k ≡ shape_of k) (sym c.kind_of-kind.ensures) (own_shape c.first_of.result)
+-- the kind that the first byte tells
+kind_told : (c : In-Some) → Some c.in-Some.kind ≡ some_kind (kind_of c.first_of.result)
+kind_told c = sym c.in-Some.is ∙ c.kind_of.ensures
 
-begins_is : (c : After-kind_of-kind) → Begins c.kind_of-kind.result c.first_of.result
-begins_is c =
-    subst (λ k. Begins k c.first_of.result) (sym c.kind_of-kind.ensures) (own_begins c.first_of.result)
+pub returns-in_default : goal.returns-in_default
+returns-in_default c =
+    let a = c.args in
+    ap (λ r. left_row r a.row.now) c.item_refusal.ensures
+    ∙ own_unknown c.first_of.result a.grade a.input.now a.row.now c.first_of.ensures (sym c.in_default.is ∙ c.kind_of.ensures)
 
 pub by_kind-requires : goal.by_kind-requires
 by_kind-requires c =
     let a = c.args in
-    part_limits c.kind_of-kind.result c.first_of.result a.grade a.input.now a.row.now _ (shape_is (goal.at.by_kind-requires c).After-kind_of-kind)
-    (sym c.is_within.ensures ∙ c.if-is_within.true) (to_end a.input.now 0) c.first_of.ensures (begins_is (goal.at.by_kind-requires c).After-kind_of-kind)
+    let told = kind_told (goal.at.by_kind-requires c).In-Some in
+    call_limits c.in-Some.kind c.first_of.result a.grade a.input.now (sym c.is_within.ensures ∙ c.if-is_within.true) c.first_of.ensures
+    (own_begins c.first_of.result c.in-Some.kind told)
 
-pub returns-in-Item : goal.returns-in-Item
-returns-in-Item c =
+pub returns-in-Some-by_kind : goal.returns-in-Some-by_kind
+returns-in-Some-by_kind c =
     let a = c.args in
-    read_some c.kind_of-kind.result c.first_of.result a.grade a.input.now a.row.now _ (shape_is (goal.at.returns-in-Item c).After-kind_of-kind)
-    (sym c.is_within.ensures ∙ c.if-is_within.true) (to_end a.input.now 0) _ c.by_kind.ensures _ _ c.in-Item.is
-    ∙ own_call c.first_of.result c.kind_of-kind.result a.grade a.input.now a.row.now c.first_of.ensures c.kind_of-kind.ensures
+    let told = kind_told (goal.at.returns-in-Some-by_kind c).In-Some in
+    read_some c.in-Some.kind a.grade a.input.now a.row.now _ (own_shape c.first_of.result c.in-Some.kind told)
+    (sym c.is_within.ensures ∙ c.if-is_within.true) _ c.by_kind.ensures _ _ c.in-Some-by_kind.is
+    ∙ own_call c.first_of.result a.grade a.input.now a.row.now c.first_of.ensures c.in-Some.kind told
 
 pub returns : goal.returns
 returns c =
@@ -37,16 +41,18 @@ returns c =
     let g = a.grade in
     let input = a.input.now in
     let row = a.row.now in
-    let no = refusal_of (scanned_item (shape_of c.kind_of-kind.result) 1 g input) in
-    let shape = shape_is (goal.at.returns c).After-kind_of-kind in
+    let kind = c.in-Some.kind in
+    let told = kind_told (goal.at.returns c).In-Some in
+    let no = refusal_of (scanned_item (shape_of kind) 1 g input) in
+    let shape = own_shape c.first_of.result kind told in
     let first = ap (λ r. left_row r c.if-is_within.row)
-    (c.item_refusal.ensures ∙ ap (λ f. refusal_of (scanned_item f 1 g input)) c.shape_of.ensures) in
-    let last = own_call c.first_of.result c.kind_of-kind.result g input row c.first_of.ensures c.kind_of-kind.ensures in
+    (c.item_refusal-2.ensures ∙ ap (λ f. refusal_of (scanned_item f 1 g input)) c.shape_of.ensures) in
+    let last = own_call c.first_of.result g input row c.first_of.ensures kind told in
     elim c.if-is_within.branch [
-      | then-is_within+in-Not w ↦ first ∙ ap (λ s. left_row no s) w.row-is
-          ∙ read_none c.kind_of-kind.result c.first_of.result g input row _ shape (sym c.is_within.ensures ∙ w.if-is_within.true) (to_end input 0) _ w.by_kind.ensures w.in-Not.is
+      | then-is_within+in_default-by_kind w ↦ first ∙ ap (λ s. left_row no s) w.row-is
+          ∙ read_none kind g input row _ shape (sym c.is_within.ensures ∙ w.if-is_within.true) _ w.by_kind.ensures w.in_default-by_kind.is
           ∙ last
       | else-is_within w ↦ first ∙ ap (λ s. left_row no s) w.row-is
-          ∙ read_outside c.kind_of-kind.result c.first_of.result g input row _ shape (sym c.is_within.ensures ∙ w.if-is_within.false)
+          ∙ read_outside kind g input row _ shape (sym c.is_within.ensures ∙ w.if-is_within.false)
           ∙ last
     ]

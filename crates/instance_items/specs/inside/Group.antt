@@ -1,16 +1,15 @@
 -- The groups of each kind of instance, as straight code tells them apart.
-use Rattle.std.specs.Prelude.{ℕ, ◌+◌, cond, List, [], ◌∷◌, ◌≡◌, eqb, ltb, drop}
+use Rattle.std.specs.Prelude.{Option, Some, None, option_map}
+use Rattle.std.specs.Prelude.{ℕ, ◌+◌, cond, List, [], ◌∷◌, ◌≡◌, eqb, drop}
 use Rattle.numbers.specs.declared.leb.Number.{Number}
 use Rattle.numbers.specs.Leb.{take_unsigned}
 use Rattle.numbers.specs.Seen.{seen}
 use Rattle.fields.specs.declared.Field.{Field}
 use Rattle.fields.specs.declared.Field.TheVariants as field
-use Rattle.fields.specs.declared.Found.{Found}
-use Rattle.fields.specs.declared.Found.TheVariants.{Is, Not}
 use Rattle.fields.specs.declared.Shape.{Shape}
 use Rattle.fields.specs.Table.{many_of}
 use Rattle.reading.specs.declared.Pair.{Pair}
-use Rattle.reading.specs.Seen.{pair_is, no_pair}
+use Rattle.reading.specs.Seen.{pair_is}
 
 -- the fields of a group
 unfoldable pub group_one : ℕ → Field
@@ -34,10 +33,10 @@ abbrev pub exports_of : ℕ → Shape
 exports_of kind = many_of (field.Fixed 0x01) field.Nothing field.Nothing (group_one kind) (group_two kind) field.Nothing
 
 -- the whole shape of a kind, core or not
-unfoldable pub shape_by : ℕ → Found
+unfoldable pub shape_by : ℕ → Option Shape
 shape_by kind =
-    cond (eqb kind 18) (Is (instantiate_of 18))
-    (cond (eqb kind 19) (Is (instantiate_of 19)) (cond (eqb kind 20) (Is (exports_of 20)) (cond (eqb kind 21) (Is (exports_of 21)) Not)))
+    cond (eqb kind 18) (Some (instantiate_of 18))
+    (cond (eqb kind 19) (Some (instantiate_of 19)) (cond (eqb kind 20) (Some (exports_of 20)) (cond (eqb kind 21) (Some (exports_of 21)) None)))
 
 -- a kind is one of those that begin with a byte
 abbrev pub Begins : ℕ → ℕ → Type 0
@@ -45,11 +44,11 @@ Begins kind first = (kind ≡ 18 → first ≡ 0x00) × (kind ≡ 19 → first �
 
 -- a sort and, behind k bytes, an index
 abbrev pub sort_is : ℕ → ℕ → Number → Pair
-sort_is sort k n = cond (ltb 0 n.took) (pair_is (k + n.took) sort n.value) no_pair
+sort_is sort k n = pair_is (k + n.took) sort n.value
 
-abbrev pub sort_pair : ℕ → ℕ → List ℕ → Pair
-sort_pair sort k bs = sort_is sort k (seen (take_unsigned (drop k bs)))
+abbrev pub sort_pair : ℕ → ℕ → List ℕ → Option Pair
+sort_pair sort k bs = option_map (sort_is sort k) (seen (take_unsigned (drop k bs)))
 
 -- 12 and an index
 abbrev pub argument_is : Number → Pair
-argument_is n = cond (ltb 0 n.took) (pair_is (1 + n.took) n.value 0) no_pair
+argument_is n = pair_is (1 + n.took) n.value 0

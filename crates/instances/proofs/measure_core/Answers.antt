@@ -3,10 +3,10 @@ use mathlib.Core.Path.{sym, ◌∙◌}
 use Rattle.instances.specs.Write.{measured_core_instance}
 use Rattle.instances.proofs.measure_core.Goals as goal
 
-pub returns-then-size-gt0 : goal.returns-then-size-gt0
+pub returns-in-Some : goal.returns-in-Some
 unfolding measured_core_instance
-returns-then-size-gt0 c =
-    sym (c.row_size-size.ensures c.if-size-gt0.true)
+returns-in-Some c =
+    sym (rw c.in-Some.is at c.row_size.ensures)
 
 pub returns : goal.returns
 unfolding measured_core_instance

@@ -1,6 +1,8 @@
 -- `write` meets its contract: a row that has a size is put where there is room, and refused where there is none.
-use mathlib.Core.Path.{sym, ◌∙◌}
+use mathlib.Core.Path.{ap, sym, ◌∙◌}
+use Rattle.fields.specs.Answers.{left}
 use Rattle.fields.specs.Words.{word}
+use Rattle.fields.proofs.OutcomeLaws.{passed-on}
 use Rattle.writing.proofs.RowLaws.{within-fits, written_answer, refused_answer}
 use Rattle.writing.proofs.KindLaws.{sized-fits}
 use Rattle.instances.specs.Write.{shape_of, measured_instance, write_instance}
@@ -10,7 +12,7 @@ use Rattle.instances.proofs.write.Goals as goal
 pub put_row-requires : goal.put_row-requires
 unfolding measured_instance
 put_row-requires c =
-    sized-fits (λ h. sym c.measure.ensures ∙ c.in-Size.is) (sym c.fits.ensures ∙ c.if-fits.true)
+    sized-fits (λ h. sym c.measure.ensures ∙ c.in_ok-size.was) (sym c.fits.ensures ∙ c.if-fits.true)
 
 pub returns-then-fits : goal.returns-then-fits
 unfolding measured_instance write_instance
@@ -18,17 +20,18 @@ returns-then-fits c =
     let args = c.args in
     let row = args.row.now in
     let pool = args.pool.now in
-    written_answer (shape_of (word row 0)) row pool (sym c.measure.ensures ∙ c.in-Size.is) _ _
+    written_answer (shape_of (word row 0)) row pool (sym c.measure.ensures ∙ c.in_ok-size.was) _ _
     (within-fits _ _ _ (sym c.fits.ensures ∙ c.if-fits.true)).1 c.put_row.ensures
 
-pub returns-else-fits : goal.returns-else-fits
-returns-else-fits c =
+pub returns : goal.returns
+returns c =
     let args = c.args in
-    no_room args.row.now args.pool.now (sym c.measure.ensures ∙ c.in-Size.is) _ args.at (sym c.fits.ensures ∙ c.if-fits.false)
+    no_room args.row.now args.pool.now (sym c.measure.ensures ∙ c.in_ok-size.was) _ args.at (sym c.fits.ensures ∙ c.if-fits.false)
 
-pub returns-in-Refused : goal.returns-in-Refused
+pub returns-in_err-size : goal.returns-in_err-size
 unfolding measured_instance write_instance
-returns-in-Refused c =
+returns-in_err-size c =
     let args = c.args in
     let row = args.row.now in
-    refused_answer (shape_of (word row 0)) row args.pool.now (sym c.measure.ensures ∙ c.in-Refused.is) _ args.at
+    ap (λ r. left r args.out.now) (passed-on _ c.from_residual.ensures)
+    ∙ refused_answer (shape_of (word row 0)) row args.pool.now (sym c.measure.ensures ∙ c.in_err-size.was) _ args.at

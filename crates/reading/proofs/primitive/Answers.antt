@@ -1,4 +1,5 @@
 -- `reading::primitive` meets its contract: the ways out are those of `primitive_is`, `primitive_not` and `primitive_none`.
+use Rattle.std.specs.Prelude.{Some}
 use mathlib.Core.Path.{sym, ap, ◌∙◌}
 use Rattle.numbers.specs.Seen.{number}
 use Rattle.reading.proofs.LeafLaws.{primitive_none, primitive_is, primitive_not}
@@ -6,7 +7,7 @@ use Rattle.reading.proofs.primitive.Goals as goal
 
 pub returns-then-is_primitive : goal.returns-then-is_primitive
 returns-then-is_primitive c =
-    ap (λ n. number n 1) c.primitive_of.ensures
+    ap (λ n. Some (number n 1)) c.primitive_of.ensures
     ∙ primitive_is _ _ c.if-bs-gt0.true (sym c.is_primitive.ensures ∙ c.if-is_primitive.true)
 
 pub returns-else-is_primitive : goal.returns-else-is_primitive

@@ -1,7 +1,7 @@
 -- What stands behind the opening of a counted item, and where a field ends.
+use Rattle.std.specs.Prelude.{Err, Ok}
 use Rattle.std.specs.Prelude.{ℕ, ◌≤◌, List, drop}
-use Rattle.fields.specs.declared.Leaf.{Leaf}
-use Rattle.fields.specs.declared.Leaf.TheVariants.{Fine, Bad}
+use Rattle.fields.specs.Leaf.{Leaf}
 use Rattle.fields.specs.declared.Shape.{Shape}
 use Rattle.reading.specs.Fill.{index, fill}
 use Rattle.fields.specs.inside.Run.{onward, makes}
@@ -17,5 +17,5 @@ counted_fill lead g s input at = makes (scan lead g) (fill g) (counted_fields s 
 
 -- a field ends within n bytes, or its fault stands there
 abbrev pub Inside : Leaf → ℕ → Type 0
-Inside (Fine t m) n = t ≤ n
-Inside (Bad w j) n = j ≤ n
+Inside (Ok span) n = span.took ≤ n
+Inside (Err fault) n = fault.value ≤ n

@@ -1,12 +1,13 @@
 -- `make_rows` meets its contract. The loop's invariant: the rows from here come to what all come to, and leave what all leave.
 use Prim.Native.Nat.{◌≤◌}
 use native.Mathlib.Omega.{arith}
-use mathlib.Core.Path.{◌∙◌}
+use mathlib.Core.Path.{sym, ◌∙◌}
+use Rattle.numbers.proofs.Impossible.{impossible}
 use lib.ListN.{length}
 use Rattle.sheets.proofs.LaidLaws.{end_of, round}
-use Rattle.sheets.proofs.MakeLaws.{make_start, make_end, make_cramped, make_next, make_barred, make_refused}
+use Rattle.sheets.proofs.MakeLaws.{make_start, make_end, make_cramped, make_next, make_barred, make_refused, room_of}
 use Rattle.sheets.proofs.make_rows.Goals as goal
-use Rattle.sheets.proofs.make_rows.Goals.{In-loop-at}
+use Rattle.sheets.proofs.make_rows.Goals.{In-loop-at, in-Room, in_default}
 
 -- the row here is whole
 row_fits : (c : In-loop-at)
@@ -44,23 +45,23 @@ shape_of-made-then-room-used c =
 
 pub returns-then-room-used : goal.returns-then-room-used
 returns-then-room-used c =
-    make_cramped _ _ _ _ _ c.loop-at.invariant c.loop-at-test.true c.write_by.ensures c.in-Size.is (omega arith)
+    make_cramped _ _ _ _ _ c.loop-at.invariant c.loop-at-test.true c.write_by.ensures c.in-Ok.is (omega arith)
 
 pub overflow_add-used : goal.overflow_add-used
 overflow_add-used c =
     omega arith
 
-pub shape_of-made-then-number_of-ne8 : goal.shape_of-made-then-number_of-ne8
-shape_of-made-then-number_of-ne8 c =
+pub shape_of-made-then-not-matches : goal.shape_of-made-then-not-matches
+shape_of-made-then-not-matches c =
     c.made-1.given ∙ c.loop-at.invariant.size
 
-pub returns-then-number_of-ne8 : goal.returns-then-number_of-ne8
-returns-then-number_of-ne8 c =
-    make_refused _ _ _ _ _ c.loop-at.invariant c.loop-at-test.true c.write_by.ensures c.in-Refused.is
-    (λ q. c.if-number_of-ne8.true (c.number_of.ensures ∙ q))
+pub returns-then-not-matches : goal.returns-then-not-matches
+returns-then-not-matches c =
+    make_refused _ _ _ _ _ c.loop-at.invariant c.loop-at-test.true c.write_by.ensures c.in-Err.is
+    (elim c.match-matches.branch [ in-Room w ↦ impossible (cc (w.matches-is, c.if-not-matches.true)) | in_default w ↦ λ q. w.in_default.not-Room (room_of _ q) ])
 
-pub overflow_sub-room-in-Refused : goal.overflow_sub-room-in-Refused
-overflow_sub-room-in-Refused c =
+pub overflow_sub-room-in-Err : goal.overflow_sub-room-in-Err
+overflow_sub-room-in-Err c =
     omega arith
 
 pub shape_of-made-then-room-used-2 : goal.shape_of-made-then-room-used-2
@@ -70,10 +71,10 @@ shape_of-made-then-room-used-2 c =
 pub returns-then-room-used-2 : goal.returns-then-room-used-2
 returns-then-room-used-2 c =
     make_barred _ _ _ _ _ c.loop-at.invariant c.loop-at-test.true c.write_by.ensures
-    c.in-Refused.is (omega arith)
+    c.in-Err.is (omega arith)
 
-pub shape_of-made-in-Refused : goal.shape_of-made-in-Refused
-shape_of-made-in-Refused c =
+pub shape_of-made-in-Err : goal.shape_of-made-in-Err
+shape_of-made-in-Err c =
     c.made-1.given ∙ c.loop-at.invariant.size
 
 pub overflow_add-rows : goal.overflow_add-rows
@@ -85,7 +86,7 @@ loop-at-smaller c = omega (arith, row_fits (goal.at.loop-at-smaller c).In-loop-a
 
 pub loop-at-preserved : goal.loop-at-preserved
 loop-at-preserved c =
-    make_next _ _ _ _ _ c.loop-at.invariant c.loop-at-test.true c.write_by.ensures c.in-Size.is (omega arith)
+    make_next _ _ _ _ _ c.loop-at.invariant c.loop-at-test.true c.write_by.ensures c.in-Ok.is (omega arith)
 
 pub shape_of-made : goal.shape_of-made
 shape_of-made c = c.loop-at.invariant.size

@@ -12,18 +12,18 @@ returns-then-input-gt-SHEET_BYTES c = simp (lt-ltb _ _ c.if-input-gt-SHEET_BYTES
 pub sheet_sized-requires-clause-rows_at : goal.sheet_sized-requires-clause-rows_at
 sheet_sized-requires-clause-rows_at c =
     let a = c.args in
-    subst (λ x. Starts x a.input.now) c.in-At.is c.rows_of.ensures
+    subst (λ x. Starts x a.input.now) c.in-Some.is c.rows_of.ensures
 
 pub sheet_sized-requires-clause-input_len_bound : goal.sheet_sized-requires-clause-input_len_bound
 sheet_sized-requires-clause-input_len_bound c = c.if-input-gt-SHEET_BYTES.false
 
-pub returns-in-At : goal.returns-in-At
+pub returns-in-Some : goal.returns-in-Some
 unfolding sheeted
-returns-in-At c = simp (le-ltb _ _ c.if-input-gt-SHEET_BYTES.false) c.sheet_sized.ensures
+returns-in-Some c = simp (le-ltb _ _ c.if-input-gt-SHEET_BYTES.false) c.sheet_sized.ensures
 
-pub returns-in-Broken : goal.returns-in-Broken
+pub returns-in-None : goal.returns-in-None
 unfolding sheeted
-returns-in-Broken c =
+returns-in-None c =
     let a = c.args in
-    let broken = subst (λ x. Starts x a.input.now) c.in-Broken.is c.rows_of.ensures in
+    let broken = subst (λ x. Starts x a.input.now) c.in-None.is c.rows_of.ensures in
     simp (le-ltb _ _ c.if-input-gt-SHEET_BYTES.false, broken)

@@ -40,15 +40,15 @@ overflow_sub-room c =
 pub returns-then-room-used : goal.returns-then-room-used
 returns-then-room-used c =
     try_cramped _ _ _ _ c.loop-at.invariant c.loop-at-test.true c.measure_by.ensures
-    c.in-Size.is (omega arith)
+    c.in-Ok.is (omega arith)
 
 pub overflow_add-used : goal.overflow_add-used
 overflow_add-used c =
     omega arith
 
-pub returns-in-Refused : goal.returns-in-Refused
-returns-in-Refused c =
-    try_refused _ _ _ _ c.loop-at.invariant c.loop-at-test.true c.measure_by.ensures c.in-Refused.is
+pub returns-in-Err : goal.returns-in-Err
+returns-in-Err c =
+    try_refused _ _ _ _ c.loop-at.invariant c.loop-at-test.true c.measure_by.ensures c.in-Err.is
 
 pub overflow_add-rows : goal.overflow_add-rows
 overflow_add-rows c =
@@ -60,7 +60,7 @@ loop-at-smaller c = omega (arith, row_fits (goal.at.loop-at-smaller c).In-loop-a
 pub loop-at-preserved : goal.loop-at-preserved
 loop-at-preserved c =
     try_next _ _ _ _ c.loop-at.invariant c.loop-at-test.true c.measure_by.ensures
-    c.in-Size.is (omega arith)
+    c.in-Ok.is (omega arith)
 
 pub returns : goal.returns
 returns c = try_end _ _ _ _ c.loop-at.invariant c.loop-at-test.false

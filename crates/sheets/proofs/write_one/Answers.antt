@@ -5,12 +5,12 @@ use Rattle.sheets.proofs.write_one.Goals as goal
 
 pub overflow_add-result : goal.overflow_add-result
 overflow_add-result c =
-    omega (arith, row_inside _ _ _ _ _ c.requires c.write_by.ensures c.in-Size.is)
+    omega (arith, row_inside _ _ _ _ _ c.requires c.write_by.ensures c.in-Ok.is)
 
-pub returns-in-Size : goal.returns-in-Size
-returns-in-Size c =
-    row_wrote _ _ _ _ _ c.requires c.write_by.ensures c.in-Size.is
+pub returns-in-Ok : goal.returns-in-Ok
+returns-in-Ok c =
+    row_wrote _ _ _ _ _ c.requires c.write_by.ensures c.in-Ok.is
 
-pub returns-in-Refused : goal.returns-in-Refused
-returns-in-Refused c =
-    absurd (row_never _ _ _ _ _ c.requires c.write_by.ensures c.in-Refused.is)
+pub returns-in-Err : goal.returns-in-Err
+returns-in-Err c =
+    absurd (row_never _ _ _ _ _ c.requires c.write_by.ensures c.in-Err.is)

@@ -1,15 +1,16 @@
 -- What the routine's own steps say of each other: the frame checked whole, and the rows that it holds.
+use Rattle.std.specs.Prelude.{None}
+use Rattle.std.specs.Prelude.{Some}
+use Rattle.std.specs.Prelude.{Option}
+use Rattle.std.specs.Prelude.{Err, Ok}
 use Rattle.std.specs.Prelude.{ℕ, zero, suc, ◌+◌, ◌≤◌, ◌<◌, ◌≡◌, Bool, true, false, List, [], ◌∷◌, ◌++◌, length, take, drop}
 use Rattle.std.proofs.lemmas.List.Edits.{sets}
 use Rattle.numbers.specs.Leb.{unsigned}
-use Rattle.fields.specs.declared.Answer.TheVariants.{Size}
-use Rattle.fields.specs.declared.Leaf.{Leaf}
-use Rattle.fields.specs.declared.Leaf.TheVariants.{Fine, Bad}
+use Rattle.fields.specs.Leaf.{Leaf}
+use Rattle.fields.specs.Leaf.{Fine, Bad}
 use Rattle.fields.specs.Words.{word}
 use Rattle.sections.specs.declared.Phase.TheVariants.{Closed}
 use Rattle.sections.specs.declared.Section.{Section}
-use Rattle.sheets.specs.declared.Framing.{Framing}
-use Rattle.sheets.specs.declared.Framing.TheVariants as framing
 use Rattle.sheets.specs.declared.Made.{Made}
 use Rattle.sheets.specs.declared.Made.TheVariants as making
 use Rattle.sheets.specs.Frame.{Rows, Are, Broken, number, words, rows_from, framed, pool_length}
@@ -37,9 +38,9 @@ pub record RowsAt (s : List ℕ) (start : ℕ) : Type 0 where
   pub fills : Framed s start
   pub same : framed s ≡ rest s start
 
-abbrev pub Starts : Framing → List ℕ → Type 0
-Starts (framing.At start) s = RowsAt s start
-Starts framing.Broken s = framed s ≡ Broken
+abbrev pub Starts : Option ℕ → List ℕ → Type 0
+Starts (Some start) s = RowsAt s start
+Starts None s = framed s ≡ Broken
 
 -- rows laid out as words: each one's length and words
 unfoldable pub laid : List (List ℕ) → List ℕ
@@ -77,13 +78,13 @@ first_family s start = family_of (word (words s (start + 4) (number s start)) 0)
 -- the row is taken, with room for it where `used` of `room` bytes are
 pub record Fits (family : ℕ) (row pool : List ℕ) (room used : ℕ) : Type 0 where
   pub size : ℕ
-  pub measures : measured_family family row pool ≡ Size size
+  pub measures : measured_family family row pool ≡ Ok size
   pub fits : used + size ≤ room
 
 -- all rows are taken
 abbrev pub Passed : Leaf → Type 0
-Passed (Fine r used) = Unit {0}
-Passed (Bad w r) = ⊥
+Passed (Ok span) = Unit {0}
+Passed (Err fault) = ⊥
 
 -- rows that are all taken, and their bytes, of which there are `used`, at the front of what was `old`
 pub record AllMade (family : ℕ) (pool : List ℕ) (room : ℕ) (rows : List (List ℕ)) (r used : ℕ) (old new : List ℕ) : Type 0 where
@@ -94,7 +95,7 @@ pub record AllMade (family : ℕ) (pool : List ℕ) (room : ℕ) (rows : List (L
 -- what is known of rows that were made in a buffer
 abbrev pub Makes : Made → ℕ → List ℕ → ℕ → List (List ℕ) → List ℕ → List ℕ → Type 0
 Makes (making.All r used) family pool room rows old new = AllMade family pool room rows r used old new
-Makes (making.Bad w r) family pool room rows old new = Bad w r ≡ tries family pool room rows 0 0
+Makes (making.Bad why row) family pool room rows old new = Bad why row ≡ tries family pool room rows 0 0
 Makes making.Small family pool room rows old new = Unit {0}
 
 -- the state of a section whose rows are all written

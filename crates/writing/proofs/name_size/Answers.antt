@@ -1,4 +1,5 @@
 -- `name_size` makes the tests of a name; one that ends within the pool has as many bytes as its length says.
+use Rattle.std.specs.Prelude.{Some}
 use native.Mathlib.Omega.{arith}
 use native.Mathlib.Nat.{add-sub_cancel_left}
 use Prim.Native.Nat.{◌+◌}
@@ -14,7 +15,7 @@ overflow_add-result c =
 pub returns-then-is_text : goal.returns-then-is_text
 returns-then-is_text c =
     let a = c.args in
-    ap (λ k. k + a.size) c.unsigned_size.ensures
+    ap (λ k. Some (k + a.size)) c.unsigned_size.ensures
     ∙ sym (name_size_lem a.pool.now a.start a.size c.if-end-pool.true
     (simp add-sub_cancel_left at (sym c.is_text.ensures) ∙ c.if-is_text.true))
 

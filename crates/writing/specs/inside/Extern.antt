@@ -1,7 +1,8 @@
 -- What straight code says of an extern name.
+use Rattle.std.specs.Prelude.{Err}
 use Rattle.std.specs.Prelude.{ℕ, ◌+◌, ◌≤◌, ◌≡◌, Bool, true, false, List, length}
-use Rattle.fields.specs.declared.Flaw.{Flaw}
-use Rattle.fields.specs.declared.Flaw.TheVariants.{Right, Wrong}
+use Rattle.fields.specs.Flaw.{Flaw}
+use Rattle.fields.specs.Flaw.{Right, Wrong}
 use Rattle.fields.specs.Words.{word}
 
 -- the words of the options together: 0 where none is present and no other word is used
@@ -11,7 +12,7 @@ option_words ws = word ws 2 + word ws 3 + word ws 4 + (word ws 5 + word ws 6 + w
 -- nothing is wrong
 abbrev pub is_right : Flaw → Bool
 is_right Right = true
-is_right (Wrong w j) = false
+is_right (Err fault) = false
 
 -- an option that is present has a name that ends within the pool
 abbrev pub SlotInside : List ℕ → List ℕ → ℕ → Type 0

@@ -1,9 +1,8 @@
 -- What straight code says of fields and rows that are right.
-use Rattle.std.specs.Prelude.{ℕ, ◌+◌, ◌<◌, ◌≤◌, ◌≡◌, List, [], ◌∷◌, length, drop}
-use Rattle.fields.specs.declared.Answer.TheVariants.{Size}
+use Rattle.fields.specs.declared.Shape.{Shape}
+use Rattle.std.specs.Prelude.{ℕ, ◌+◌, ◌≤◌, ◌≡◌, Option, Some, None, Ok, List, [], ◌∷◌, length, drop}
 use Rattle.fields.specs.declared.Field.{Field}
-use Rattle.fields.specs.declared.Found.{Found}
-use Rattle.fields.specs.declared.Flaw.TheVariants.{Right}
+use Rattle.fields.specs.Flaw.{Right}
 use Rattle.writing.specs.Binary.{bytes}
 use Rattle.fields.specs.Words.{wide}
 use Rattle.writing.specs.Judge.{flaw}
@@ -28,12 +27,12 @@ pub record Groups (pool : List ℕ) (g : List Field) (element : List ℕ → Lis
   pub size : r ≡ base + length (elements n (widths g) element ws)
 
 -- a row of a kind's shape is right, and its bytes end within the room from `to` on
-pub record Fits (found : Found) (row pool : List ℕ) (to room : ℕ) : Type 0 where
+pub record Fits (found : Option Shape) (row pool : List ℕ) (to room : ℕ) : Type 0 where
   pub size : ℕ
-  pub measured : measured_row found row pool ≡ Size size
+  pub measured : measured_row found row pool ≡ Ok size
   pub ends : to + size ≤ room
 
 -- a row of a kind's shape was written, or nothing was done
-pub record Tried (found : Found) (row pool old : List ℕ) (at r : ℕ) (new : List ℕ) : Type 0 where
-  pub none : r ≡ 0 → new ≡ old
-  pub some : 0 < r → left (Size r) new ≡ write_row found row pool old at
+pub record Tried (found : Option Shape) (row pool old : List ℕ) (at : ℕ) (r : Option ℕ) (new : List ℕ) : Type 0 where
+  pub none : r ≡ None → new ≡ old
+  pub some : (n : ℕ) → r ≡ Some n → left (Ok n) new ≡ write_row found row pool old at

@@ -4,64 +4,37 @@ use native.Mathlib.Omega.{arith}
 use lib.ListN.{length, length-set}
 use Rattle.fields.specs.Words.{wide}
 use Rattle.fields.specs.Shape.{widths}
-use Rattle.reading.proofs.FillLaws.{filling_start, filling_first, filling_end}
-use Rattle.canonical_items.proofs.OptionLaws.{room_of, choices-wide, choice_read, choice-next}
+use Rattle.reading.proofs.FillLaws.{filling_start, filling_first, filling_end, filling_due}
+use Rattle.canonical_items.proofs.OptionLaws.{room_of, choices-wide, choice_there, choice_read, choice-next}
 use Rattle.canonical_items.proofs.options.fill_options.Goals as goal
-use Rattle.canonical_items.proofs.options.fill_options.Goals.{In-loop-due}
+use Rattle.canonical_items.proofs.options.fill_options.Goals.{In-loop}
 
 -- in a round, the next option has room
-room : (c : In-loop-due) → c.loop-due.to + 2 ≤ length c.loop-due.row
-room c = room_of c.loop-due.invariant c.loop-due-test.true 2 choices-wide
+room : (c : In-loop) → c.loop.to + 2 ≤ length c.loop.row
+room c = room_of c.loop.invariant (omega (arith, c.loop-test.true)) 2 choices-wide
 
-pub loop-due-init : goal.loop-due-init
+pub loop-init : goal.loop-init
 unfolding widths wide
-loop-due-init c =
-    filling_start c.requires.input_len_bound.1 c.requires.input_len_bound.2 c.requires.nonzero
+loop-init c = filling_due (filling_start c.requires.input_len_bound.1 c.requires.input_len_bound.2 c.requires.right) (omega arith)
 
-pub slice_bounds-option-count : goal.slice_bounds-option-count
-slice_bounds-option-count c = omega (arith, c.loop-due.invariant.inside)
-
-pub slice_bounds-option-start : goal.slice_bounds-option-start
-slice_bounds-option-start c = omega (arith, c.loop-due.invariant.inside)
-
-pub slice_bounds-option-end : goal.slice_bounds-option-end
-slice_bounds-option-end c = omega (arith, c.loop-due.invariant.inside)
-
-pub offset_bounds-row-to : goal.offset_bounds-row-to
-offset_bounds-row-to c = omega (arith, room (goal.at.offset_bounds-row-to c).In-loop-due)
+pub unwrap-one-requires : goal.unwrap-one-requires
+unwrap-one-requires c = choice_there (filling_first c.loop.invariant (omega (arith, c.loop-test.true))) c.option.ensures
 
 pub bounds-row-to : goal.bounds-row-to
-bounds-row-to c = omega (arith, room (goal.at.bounds-row-to c).In-loop-due)
+bounds-row-to c = omega (arith, room (goal.at.bounds-row-to c).In-loop)
 
-pub overflow_add-row : goal.overflow_add-row
-overflow_add-row c = omega (arith, room (goal.at.overflow_add-row c).In-loop-due)
-
-pub offset_bounds-row-to-in-loop-due : goal.offset_bounds-row-to-in-loop-due
-offset_bounds-row-to-in-loop-due c = omega (arith, room (goal.at.offset_bounds-row-to-in-loop-due c).In-loop-due)
-
-pub bounds-row-to-in-loop-due : goal.bounds-row-to-in-loop-due
-bounds-row-to-in-loop-due c = let there = room (goal.at.bounds-row-to-in-loop-due c).In-loop-due in simp length-set (omega arith)
+pub bounds-row-to-in-loop : goal.bounds-row-to-in-loop
+bounds-row-to-in-loop c = let there = room (goal.at.bounds-row-to-in-loop c).In-loop in simp length-set (omega arith)
 
 pub overflow_add-at : goal.overflow_add-at
 overflow_add-at c =
-    let one = choice_read (filling_first c.loop-due.invariant c.loop-due-test.true) c.option-one.ensures in
+    let one = choice_read (filling_first c.loop.invariant (omega (arith, c.loop-test.true))) c.option.ensures c.unwrap-one.ensures in
     omega (arith, one.ends, c.requires.input_len_bound.0)
 
-pub overflow_add-to : goal.overflow_add-to
-overflow_add-to c = omega (arith, room (goal.at.overflow_add-to c).In-loop-due)
-
-pub overflow_sub-due : goal.overflow_sub-due
-overflow_sub-due c = omega arith
-
-pub loop-due-smaller : goal.loop-due-smaller
-loop-due-smaller c = omega arith
-
-pub loop-due-preserved : goal.loop-due-preserved
-loop-due-preserved c =
-    choice-next c.loop-due.invariant c.loop-due-test.true (choice_read (filling_first c.loop-due.invariant c.loop-due-test.true) c.option-one.ensures)
-
-pub shape_of-row : goal.shape_of-row
-shape_of-row c = c.loop-due.invariant.same_size
+pub loop-preserved : goal.loop-preserved
+loop-preserved c =
+    filling_due (choice-next c.loop.invariant (omega (arith, c.loop-test.true))
+    (choice_read (filling_first c.loop.invariant (omega (arith, c.loop-test.true))) c.option.ensures c.unwrap-one.ensures)) (omega arith)
 
 pub returns : goal.returns
-returns c = filling_end c.loop-due.invariant c.loop-due-test.false
+returns c = filling_end c.loop.invariant (omega (arith, c.loop-test.false))

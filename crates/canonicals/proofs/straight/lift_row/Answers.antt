@@ -2,15 +2,18 @@
 use Rattle.canonicals.proofs.LiftedLaws.{lift_room, lift_tried, lift_none}
 use Rattle.canonicals.proofs.straight.lift_row.Goals as goal
 
+pub returns-in_err-size : goal.returns-in_err-size
+returns-in_err-size c = rw c.from_residual.ensures lift_none
+
 pub put_lift-requires : goal.put_lift-requires
 put_lift-requires c =
     let a = c.args in
-    lift_room a.out.now a.at c.lift_size-size.ensures c.fits.ensures c.if-fits.true
+    lift_room a.out.now a.at c.in_ok-size.ensures c.fits.ensures c.if-fits.true
 
 pub returns-then-fits : goal.returns-then-fits
 returns-then-fits c =
     let a = c.args in
-    lift_tried a.out.now a.at c.lift_size-size.ensures
+    lift_tried a.out.now a.at c.in_ok-size.ensures
     c.fits.ensures c.if-fits.true
     c.put_lift.ensures
 

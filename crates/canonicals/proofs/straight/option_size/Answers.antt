@@ -10,7 +10,7 @@ overflow_add-result c = omega (arith, c.unsigned_size.ensures, size_bounds 128 c
 
 pub returns-then-is_indexed : goal.returns-then-is_indexed
 returns-then-is_indexed c = record {
-  x_value = λ h. indexed-known c.args.k c.args.x c.if-k-lt10.true (sym c.is_indexed.ensures ∙ c.if-is_indexed.true) c.unsigned_size.ensures;
+  x_value = indexed-known c.args.k c.args.x c.if-k-lt10.true (sym c.is_indexed.ensures ∙ c.if-is_indexed.true) c.unsigned_size.ensures;
   upper_bound = omega (arith, c.unsigned_size.ensures, size_bounds 128 c.args.x);
 }
 
@@ -18,12 +18,6 @@ pub returns-then-x-eq0 : goal.returns-then-x-eq0
 returns-then-x-eq0 c =
     let a = c.args in
     record {
-      x_value = λ h. bare_known a.k a.x c.if-k-lt10.true (sym c.is_indexed.ensures ∙ c.if-is_indexed.false) c.if-x-eq0.true;
+      x_value = bare_known a.k a.x c.if-k-lt10.true (sym c.is_indexed.ensures ∙ c.if-is_indexed.false) c.if-x-eq0.true;
       upper_bound = omega arith;
     }
-
-pub returns-else-x-eq0 : goal.returns-else-x-eq0
-returns-else-x-eq0 c = record { x_value = λ h. absurd (omega arith); upper_bound = omega arith }
-
-pub returns-else-k-lt10 : goal.returns-else-k-lt10
-returns-else-k-lt10 c = record { x_value = λ h. absurd (omega arith); upper_bound = omega arith }

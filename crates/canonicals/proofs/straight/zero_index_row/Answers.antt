@@ -2,17 +2,18 @@
 use Rattle.canonicals.proofs.ClassLaws.{put_room, put_some, put_none}
 use Rattle.canonicals.proofs.straight.zero_index_row.Goals as goal
 
+pub returns-in_err-size : goal.returns-in_err-size
+returns-in_err-size c = rw c.from_residual.ensures put_none
+
 pub put_zero_index-requires : goal.put_zero_index-requires
 put_zero_index-requires c =
     let a = c.args in
-    put_room a.out.now a.at c.zero_index_size-size.ensures c.fits.ensures c.if-fits.true
+    put_room a.out.now a.at c.in_ok-size.ensures c.fits.ensures c.if-fits.true
 
 pub returns-then-fits : goal.returns-then-fits
 returns-then-fits c =
     let a = c.args in
-    put_some a.out.now a.at c.zero_index_size-size.ensures
-    c.fits.ensures c.if-fits.true a.lead
-    c.put_zero_index.ensures
+    put_some a.out.now a.at c.in_ok-size.ensures c.fits.ensures c.if-fits.true a.lead c.put_zero_index.ensures
 
 pub returns : goal.returns
 returns c = put_none

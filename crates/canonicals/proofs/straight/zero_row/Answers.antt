@@ -2,17 +2,18 @@
 use Rattle.canonicals.proofs.ClassLaws.{put_room, put_some, put_none}
 use Rattle.canonicals.proofs.straight.zero_row.Goals as goal
 
+pub returns-in_err-size : goal.returns-in_err-size
+returns-in_err-size c = rw c.from_residual.ensures put_none
+
 pub put_zero-requires : goal.put_zero-requires
 put_zero-requires c =
     let a = c.args in
-    (put_room a.out.now a.at c.zero_size-size.ensures c.fits.ensures c.if-fits.true).1
+    (put_room a.out.now a.at c.in_ok-size.ensures c.fits.ensures c.if-fits.true).1
 
 pub returns-then-fits : goal.returns-then-fits
 returns-then-fits c =
     let a = c.args in
-    put_some a.out.now a.at c.zero_size-size.ensures
-    c.fits.ensures c.if-fits.true a.lead
-    c.put_zero.ensures
+    put_some a.out.now a.at c.in_ok-size.ensures c.fits.ensures c.if-fits.true a.lead c.put_zero.ensures
 
 pub returns : goal.returns
 returns c = put_none

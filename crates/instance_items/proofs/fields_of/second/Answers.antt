@@ -6,7 +6,7 @@ use Rattle.instance_items.proofs.FieldLaws.{some_of, second_empty, two-argument,
 use Rattle.instance_items.proofs.fields_of.second.Goals as goal
 
 pub returns-then-bs-eq0 : goal.returns-then-bs-eq0
-returns-then-bs-eq0 c = λ g. c.no_pair.ensures ∙ second_empty c.args.kind g c.args.bs.now c.if-bs-eq0.true
+returns-then-bs-eq0 c = λ g. second_empty c.args.kind g c.args.bs.now c.if-bs-eq0.true
 
 pub argument-requires : goal.argument-requires
 argument-requires c = some_of _ c.if-bs-eq0.false
@@ -19,11 +19,11 @@ returns-then-sort-lt5 c = λ g. c.sorted.ensures ∙ core_is g c.args.bs.now (so
     ∙ ap (λ (f : Field). pair g f c.args.bs.now) (sym (two_core c.args.kind c.if-kind-eq20.true))
 
 pub returns-then-kind-eq20 : goal.returns-then-kind-eq20
-returns-then-kind-eq20 c = λ g. c.no_pair-then-kind-eq20.ensures ∙ core_other g c.args.bs.now (some_of _ c.if-bs-eq0.false) c.if-sort-lt5.false
+returns-then-kind-eq20 c = λ g. core_other g c.args.bs.now (some_of _ c.if-bs-eq0.false) c.if-sort-lt5.false
     ∙ ap (λ (f : Field). pair g f c.args.bs.now) (sym (two_core c.args.kind c.if-kind-eq20.true))
 
 pub returns-then-bs-eq1 : goal.returns-then-bs-eq1
-returns-then-bs-eq1 c = λ g. c.no_pair-then-bs-eq1.ensures ∙ sort_short g c.args.bs.now (some_of _ c.if-bs-eq0.false) c.if-sort-eq0.true c.if-bs-eq1.true
+returns-then-bs-eq1 c = λ g. sort_short g c.args.bs.now (some_of _ c.if-bs-eq0.false) c.if-sort-eq0.true c.if-bs-eq1.true
     ∙ ap (λ (f : Field). pair g f c.args.bs.now) (sym (two_sort c.args.kind c.if-kind-eq18.false c.if-kind-eq20.false))
 
 pub returns-then-bs-eq17 : goal.returns-then-bs-eq17
@@ -31,7 +31,7 @@ returns-then-bs-eq17 c = λ g. c.sorted-then-bs-eq17.ensures ∙ sort_module g c
     ∙ ap (λ (f : Field). pair g f c.args.bs.now) (sym (two_sort c.args.kind c.if-kind-eq18.false c.if-kind-eq20.false))
 
 pub returns-then-sort-eq0 : goal.returns-then-sort-eq0
-returns-then-sort-eq0 c = λ g. c.no_pair-then-sort-eq0.ensures ∙ sort_not g c.args.bs.now (some_of _ c.if-bs-eq0.false) c.if-sort-eq0.true c.if-bs-eq1.false c.if-bs-eq17.false
+returns-then-sort-eq0 c = λ g. sort_not g c.args.bs.now (some_of _ c.if-bs-eq0.false) c.if-sort-eq0.true c.if-bs-eq1.false c.if-bs-eq17.false
     ∙ ap (λ (f : Field). pair g f c.args.bs.now) (sym (two_sort c.args.kind c.if-kind-eq18.false c.if-kind-eq20.false))
 
 pub returns-then-sort-lt6 : goal.returns-then-sort-lt6
@@ -39,5 +39,5 @@ returns-then-sort-lt6 c = λ g. c.sorted-then-sort-lt6.ensures ∙ sort_is_lem g
     ∙ ap (λ (f : Field). pair g f c.args.bs.now) (sym (two_sort c.args.kind c.if-kind-eq18.false c.if-kind-eq20.false))
 
 pub returns : goal.returns
-returns c = λ g. c.no_pair-2.ensures ∙ sort_other g c.args.bs.now (some_of _ c.if-bs-eq0.false) c.if-sort-eq0.false c.if-sort-lt6.false
+returns c = λ g. sort_other g c.args.bs.now (some_of _ c.if-bs-eq0.false) c.if-sort-eq0.false c.if-sort-lt6.false
     ∙ ap (λ (f : Field). pair g f c.args.bs.now) (sym (two_sort c.args.kind c.if-kind-eq18.false c.if-kind-eq20.false))

@@ -1,87 +1,72 @@
 -- `groups_end` meets its contract: the groups that are due end where all of them do (`Going`), and each step says whether its field is
 -- right (`took-some`, `took_none`).
-use Prim.Native.Nat.{◌+◌}
+use Prim.Native.Nat.{ℕ, ◌+◌, ◌-◌}
 use native.Mathlib.Omega.{arith}
-use Rattle.instance_items.specs.inside.Group.{group_one, group_two}
-use Rattle.reading.proofs.StepLaws.{going_start, going_end, going_first, going_second, going_next}
-use Rattle.instance_items.proofs.FieldLaws.{one-taking, two_taking, pair-took}
+use mathlib.Core.Path.{◌≡◌, ◌∙◌, sym, ap, subst}
+use Rattle.instance_items.specs.inside.Group.{group_one, group_two, group_of}
+use Rattle.reading.proofs.StepLaws.{Going, going_start, going_end, going_first, going_second, going_next}
+use Rattle.instance_items.proofs.FieldLaws.{one-taking, two_taking, took_of, pair-took}
 use Rattle.instance_items.proofs.GroupLaws.{part_length, took-some, took_none}
 use Rattle.instance_items.proofs.groups.groups_end.Goals as goal
 
-pub loop-due-init : goal.loop-due-init
-loop-due-init c = going_start c.requires.1 c.requires.2
-
-pub slice_bounds-first_took-count : goal.slice_bounds-first_took-count
-slice_bounds-first_took-count c = omega (arith, c.loop-due.invariant.inside)
-
-pub slice_bounds-first_took-start : goal.slice_bounds-first_took-start
-slice_bounds-first_took-start c = omega (arith, c.loop-due.invariant.inside)
-
-pub slice_bounds-first_took-end : goal.slice_bounds-first_took-end
-slice_bounds-first_took-end c = omega (arith, c.loop-due.invariant.inside)
-
-pub first_took-took-requires : goal.first_took-took-requires
-first_took-took-requires c = (omega (arith, part_length c.args.input.now c.loop-due.at, c.requires.0), c.requires.3, c.requires.4)
-
-pub returns-then-took-eq0 : goal.returns-then-took-eq0
-returns-then-took-eq0 c =
+pub loop-init : goal.loop-init
+loop-init c =
     let a = c.args in
-    let wrong = took_none a.grade (group_one a.kind) a.input.now c.loop-due.at (one-taking a.kind) c.first_took-took.ensures c.if-took-eq0.true in
-    going_first c.loop-due.invariant c.loop-due-test.true wrong
+    let all : a.n ≡ a.n - 0 = omega arith in
+    subst (λ (left : ℕ). Going a.grade a.input.now (group_of a.kind) a.n a.from left a.from) all (going_start c.requires.1)
+
+pub first_took-requires : goal.first_took-requires
+first_took-requires c = (omega (arith, part_length c.args.input.now c.loop.at, c.requires.0), c.requires.2, c.requires.3)
+
+pub returns-in_err-one : goal.returns-in_err-one
+returns-in_err-one c =
+    let a = c.args in
+    let wrong = took_none a.grade (group_one a.kind) a.input.now c.loop.at (sym c.in_err-one.was ∙ c.first_took.ensures) in
+    c.from_residual.ensures ∙ going_first c.loop.invariant (omega arith) wrong
 
 pub overflow_add-at : goal.overflow_add-at
 overflow_add-at c =
     let a = c.args in
-    let one = took-some a.grade (group_one a.kind) a.input.now c.loop-due.at (one-taking a.kind) c.first_took-took.ensures c.if-took-eq0.false in
-    omega (arith, one.1, c.loop-due.invariant.inside, c.requires.0)
+    let one = took-some a.grade (group_one a.kind) a.input.now c.loop.at (one-taking a.kind) (sym c.in_ok-one.was ∙ c.first_took.ensures) in
+    omega (arith, one.1, c.loop.invariant.inside, c.requires.0)
 
 pub slice_bounds-second-count : goal.slice_bounds-second-count
 slice_bounds-second-count c =
     let a = c.args in
-    let one = took-some a.grade (group_one a.kind) a.input.now c.loop-due.at (one-taking a.kind) c.first_took-took.ensures c.if-took-eq0.false in
-    omega (arith, one.1, c.loop-due.invariant.inside)
+    let one = took-some a.grade (group_one a.kind) a.input.now c.loop.at (one-taking a.kind) (sym c.in_ok-one.was ∙ c.first_took.ensures) in
+    omega (arith, one.1, c.loop.invariant.inside)
 
 pub slice_bounds-second-start : goal.slice_bounds-second-start
 slice_bounds-second-start c =
     let a = c.args in
-    let one = took-some a.grade (group_one a.kind) a.input.now c.loop-due.at (one-taking a.kind) c.first_took-took.ensures c.if-took-eq0.false in
-    omega (arith, one.1, c.loop-due.invariant.inside)
+    let one = took-some a.grade (group_one a.kind) a.input.now c.loop.at (one-taking a.kind) (sym c.in_ok-one.was ∙ c.first_took.ensures) in
+    omega (arith, one.1, c.loop.invariant.inside)
 
-pub slice_bounds-second-end : goal.slice_bounds-second-end
-slice_bounds-second-end c =
+pub returns-in_err-two : goal.returns-in_err-two
+returns-in_err-two c =
     let a = c.args in
-    let one = took-some a.grade (group_one a.kind) a.input.now c.loop-due.at (one-taking a.kind) c.first_took-took.ensures c.if-took-eq0.false in
-    omega (arith, one.1, c.loop-due.invariant.inside)
+    let one = took-some a.grade (group_one a.kind) a.input.now c.loop.at (one-taking a.kind) (sym c.in_ok-one.was ∙ c.first_took.ensures) in
+    let ends = ap took_of (sym c.in_err-two.was ∙ c.second.ensures a.grade) ∙ pair-took a.grade (group_two a.kind) _ in
+    let wrong = took_none a.grade (group_two a.kind) a.input.now (c.loop.at + c.in_ok-one.one) ends in
+    c.from_residual-in_err-two.ensures ∙ going_second c.loop.invariant (omega arith) one.0 wrong
 
-pub returns-then-more-eq0 : goal.returns-then-more-eq0
-returns-then-more-eq0 c =
+pub overflow_add-at-in-loop : goal.overflow_add-at-in-loop
+overflow_add-at-in-loop c =
     let a = c.args in
-    let one = took-some a.grade (group_one a.kind) a.input.now c.loop-due.at (one-taking a.kind) c.first_took-took.ensures c.if-took-eq0.false in
-    let ends = pair-took a.grade (group_two a.kind) _ (c.second-two.ensures a.grade) in
-    let wrong = took_none a.grade (group_two a.kind) a.input.now (c.loop-due.at + c.first_took-took.result) (two_taking a.kind) ends c.if-more-eq0.true in
-    going_second c.loop-due.invariant c.loop-due-test.true one.0 wrong
+    let one = took-some a.grade (group_one a.kind) a.input.now c.loop.at (one-taking a.kind) (sym c.in_ok-one.was ∙ c.first_took.ensures) in
+    let ends = ap took_of (sym c.in_ok-two.was ∙ c.second.ensures a.grade) ∙ pair-took a.grade (group_two a.kind) _ in
+    let two = took-some a.grade (group_two a.kind) a.input.now (c.loop.at + c.in_ok-one.one) (two_taking a.kind) ends in
+    omega (arith, one.1, two.1, c.loop.invariant.inside, c.requires.0)
 
-pub overflow_add-at-in-loop-due : goal.overflow_add-at-in-loop-due
-overflow_add-at-in-loop-due c =
+pub loop-preserved : goal.loop-preserved
+loop-preserved c =
     let a = c.args in
-    let one = took-some a.grade (group_one a.kind) a.input.now c.loop-due.at (one-taking a.kind) c.first_took-took.ensures c.if-took-eq0.false in
-    let ends = pair-took a.grade (group_two a.kind) _ (c.second-two.ensures a.grade) in
-    let two = took-some a.grade (group_two a.kind) a.input.now (c.loop-due.at + c.first_took-took.result) (two_taking a.kind) ends c.if-more-eq0.false in
-    omega (arith, one.1, two.1, c.loop-due.invariant.inside, c.requires.0)
-
-pub overflow_sub-due : goal.overflow_sub-due
-overflow_sub-due c = omega (arith, c.loop-due-test.true)
-
-pub loop-due-smaller : goal.loop-due-smaller
-loop-due-smaller c = omega (arith, c.loop-due-test.true)
-
-pub loop-due-preserved : goal.loop-due-preserved
-loop-due-preserved c =
-    let a = c.args in
-    let one = took-some a.grade (group_one a.kind) a.input.now c.loop-due.at (one-taking a.kind) c.first_took-took.ensures c.if-took-eq0.false in
-    let ends = pair-took a.grade (group_two a.kind) _ (c.second-two.ensures a.grade) in
-    let two = took-some a.grade (group_two a.kind) a.input.now (c.loop-due.at + c.first_took-took.result) (two_taking a.kind) ends c.if-more-eq0.false in
-    going_next c.loop-due.invariant c.loop-due-test.true one.0 two.0
+    let one = took-some a.grade (group_one a.kind) a.input.now c.loop.at (one-taking a.kind) (sym c.in_ok-one.was ∙ c.first_took.ensures) in
+    let ends = ap took_of (sym c.in_ok-two.was ∙ c.second.ensures a.grade) ∙ pair-took a.grade (group_two a.kind) _ in
+    let two = took-some a.grade (group_two a.kind) a.input.now (c.loop.at + c.in_ok-one.one) (two_taking a.kind) ends in
+    let less : a.n - c.loop.counter - 1 ≡ a.n - (c.loop.counter + 1) = omega arith in
+    subst (λ (left : ℕ). Going a.grade a.input.now (group_of a.kind) a.n a.from left (c.loop.at + c.in_ok-one.one + c.in_ok-two.two.took)) less
+    (going_next c.loop.invariant (omega arith) one.0 two.0)
 
 pub returns : goal.returns
-returns c = going_end c.loop-due.invariant c.loop-due-test.false
+returns c = going_end c.loop.invariant (omega arith)

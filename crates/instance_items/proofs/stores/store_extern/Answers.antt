@@ -2,14 +2,8 @@
 -- the row.
 use native.Mathlib.Omega.{arith}
 use lib.ListN.{length-set}
-use Rattle.instance_items.proofs.ExternLaws.{size_one, size_two, size_last, extern_words_lem}
+use Rattle.instance_items.proofs.ExternLaws.{size_one, size_two, extern_words_lem}
 use Rattle.instance_items.proofs.stores.store_extern.Goals as goal
-
-pub bounds-row-to : goal.bounds-row-to
-bounds-row-to c = omega (arith, c.requires.0)
-
-pub bounds-row-to-2 : goal.bounds-row-to-2
-bounds-row-to-2 c = simp length-set (omega (arith, c.requires.0))
 
 pub store_slot-requires : goal.store_slot-requires
 store_slot-requires c = (simp length-set (omega (arith, c.requires.0)), c.requires.1.1)
@@ -23,11 +17,6 @@ pub store_slot-requires-3 : goal.store_slot-requires-3
 store_slot-requires-3 c =
     let a = c.args in
     (omega (arith, size_two a.row.now a.at a.to a.e c.store_slot.ensures c.store_slot-2.ensures, c.requires.0), c.requires.1.3)
-
-pub shape_of-row : goal.shape_of-row
-shape_of-row c =
-    let a = c.args in
-    size_last a.row.now a.at a.to a.e c.store_slot.ensures c.store_slot-2.ensures c.store_slot-3.ensures
 
 pub returns : goal.returns
 returns c =

@@ -1,19 +1,9 @@
 -- `store_slot` meets its contract: three stores, one place apart.
 use Prim.Native.Nat.{ℕ, ◌+◌}
-use native.Mathlib.Omega.{arith}
 use mathlib.Core.Path.{ap, ◌∙◌}
-use lib.ListN.{length-set, set}
+use lib.ListN.{set}
 use Rattle.instance_items.proofs.ExternLaws.{set-three}
 use Rattle.instance_items.proofs.stores.store_slot.Goals as goal
-
-pub bounds-row-to : goal.bounds-row-to
-bounds-row-to c = omega (arith, c.requires.0)
-
-pub bounds-row-to-2 : goal.bounds-row-to-2
-bounds-row-to-2 c = simp length-set (omega (arith, c.requires.0))
-
-pub bounds-row-to-3 : goal.bounds-row-to-3
-bounds-row-to-3 c = simp length-set (omega (arith, c.requires.0))
 
 pub returns : goal.returns
 returns c =

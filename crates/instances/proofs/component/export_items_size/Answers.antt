@@ -5,12 +5,9 @@ use Rattle.instances.proofs.InstanceLaws.{item-wide, item_element}
 use Rattle.instances.proofs.LaidLaws.{export_items_known}
 use Rattle.instances.proofs.component.export_items_size.Goals as goal
 
-pub returns-then-base-eq0 : goal.returns-then-base-eq0
-returns-then-base-eq0 c = λ h. absurd (omega arith)
-
 pub bounds-row-1 : goal.bounds-row-1
 bounds-row-1 c =
-    omega (arith, (c.export_items_head_size-base.ensures.headed (omega arith)).width)
+    omega (arith, (rw c.in_ok-base.was at c.export_items_head_size.ensures.headed).width)
 
 pub overflow_cast-row : goal.overflow_cast-row
 overflow_cast-row c =
@@ -20,11 +17,11 @@ pub items_size-requires-clause-pool_len_bound : goal.items_size-requires-clause-
 items_size-requires-clause-pool_len_bound c = c.requires
 
 pub items_size-requires-clause-n_in_bounds : goal.items_size-requires-clause-n_in_bounds
-items_size-requires-clause-n_in_bounds c = (omega (arith, (c.export_items_head_size-base.ensures.headed (omega arith)).width), c.export_items_head_size-base.ensures.upper_bound)
+items_size-requires-clause-n_in_bounds c = (omega (arith, (rw c.in_ok-base.was at c.export_items_head_size.ensures.headed).width), rw c.in_ok-base.was at c.export_items_head_size.ensures.upper_bound)
 
 pub returns : goal.returns
 returns c =
     let args = c.args in
-    let head = c.export_items_head_size-base.ensures.headed (omega arith) in
+    let head = rw c.in_ok-base.was at c.export_items_head_size.ensures.headed in
     let pool = args.pool.now in
-    λ h. export_items_known field.ExternName field.SortIndex item-wide args.row.now pool (item_element pool) c.requires.0 c.requires.1 head (c.items_size.ensures h)
+    export_items_known field.ExternName field.SortIndex item-wide args.row.now pool (item_element pool) c.requires.0 c.requires.1 head _ c.items_size.ensures

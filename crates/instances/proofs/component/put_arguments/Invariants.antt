@@ -1,12 +1,9 @@
 -- `component::put_arguments` meets its contract: the loop's invariant is `Putting`: what is still to be put, put here, leaves what the whole leaves.
-use Rattle.std.specs.Prelude.{◌≡◌, ◌+◌, ◌*◌, [], ◌∷◌}
+use Rattle.std.specs.Prelude.{◌≡◌, ◌+◌, ◌-◌, ◌*◌, [], ◌∷◌}
 use Rattle.fields.specs.declared.Field.TheVariants as field
 use Rattle.writing.proofs.GroupLaws.{Putting}
 use Rattle.instances.specs.Table.{instantiatearg}
 use Rattle.instances.proofs.component.put_arguments.Given as goal
 
-abbrev pub invariant-loop-due : goal.invariant-loop-due
-invariant-loop-due l = Putting l.pool (field.Name ∷ field.SortIndex ∷ []) (instantiatearg l.pool) l.row l.from l.n l.initial.out l.base l.due l.at l.to l.out × (l.at + l.due * 4 ≡ l.from + l.n * 4)
-
-abbrev pub decreases-loop-due : goal.decreases-loop-due
-decreases-loop-due l = l.due
+abbrev pub invariant-loop : goal.invariant-loop
+invariant-loop l = Putting l.pool (field.Name ∷ field.SortIndex ∷ []) (instantiatearg l.pool) l.row l.from l.n l.initial.out l.base (l.n - l.counter) l.at l.to l.out × (l.at ≡ l.from + l.counter * 4)

@@ -14,7 +14,7 @@ returns-then-sort-eq0 c =
     let args = c.args in
     let few = size_bounds 128 args.x in
     record {
-      known = λ h pool. module_known args.sort args.x c.unsigned_size.ensures pool c.if-sort-eq0.true;
+      known = λ pool. module_known args.sort args.x c.unsigned_size.ensures pool c.if-sort-eq0.true;
       upper_bound = omega (arith, c.unsigned_size.ensures, few);
     }
 
@@ -27,9 +27,6 @@ pub returns-then-sort-lt6 : goal.returns-then-sort-lt6
 returns-then-sort-lt6 c =
     let args = c.args in
     let few = size_bounds 128 args.x in record {
-      known = λ h pool. sort_known args.sort args.x c.unsigned_size-then-sort-lt6.ensures pool c.if-sort-eq0.false c.if-sort-lt6.true;
+      known = λ pool. sort_known args.sort args.x c.unsigned_size-then-sort-lt6.ensures pool c.if-sort-eq0.false c.if-sort-lt6.true;
       upper_bound = omega (arith, c.unsigned_size-then-sort-lt6.ensures, few);
     }
-
-pub returns : goal.returns
-returns c = record { known = λ h. absurd (omega arith); upper_bound = omega arith }

@@ -14,9 +14,6 @@ returns-then-kind-lt5 c =
     let args = c.args in
     let few = size_bounds 128 args.x in
     record {
-      known = λ h pool. core_sort_known args.kind args.x c.unsigned_size.ensures pool c.if-kind-lt5.true;
+      known = λ pool. core_sort_known args.kind args.x c.unsigned_size.ensures pool c.if-kind-lt5.true;
       upper_bound = omega (arith, c.unsigned_size.ensures, few);
     }
-
-pub returns : goal.returns
-returns c = record { known = λ h. absurd (omega arith); upper_bound = omega arith }

@@ -6,26 +6,25 @@ use Rattle.fields.specs.declared.Field.TheVariants as field
 use Rattle.fields.specs.Words.{word, wide}
 use Rattle.fields.specs.Shape.{widths}
 use Rattle.writing.specs.Binary.{argument}
-use Rattle.writing.proofs.GroupLaws.{putting_start, putting_next, putting_end}
+use Rattle.writing.proofs.GroupLaws.{putting_next, putting_end}
 use Rattle.instances.specs.Table.{coreinstantiatearg}
 use Rattle.writing.proofs.ElementLaws.{named_room, named_put}
-use Rattle.instances.proofs.InstanceLaws.{core_argument-wide, core_argument_words}
+use Rattle.instances.proofs.InstanceLaws.{put_none, put_one, core_argument-wide, core_argument_words}
 use Rattle.instances.proofs.core_rows.put_arguments.Goals as goal
 
-pub loop-due-init : goal.loop-due-init
-loop-due-init c =
+pub loop-init : goal.loop-init
+loop-init c =
     let args = c.args in
     let pool = args.pool.now in (
-      putting_start pool (field.Name ∷ field.Argument ∷ []) (coreinstantiatearg pool) args.row.now args.from args.n args.out.now
-          args.base c.requires.rights,
-      refl,
+      put_none pool (field.Name ∷ field.Argument ∷ []) (coreinstantiatearg pool) args.row.now args.from args.n args.base args.out.now c.requires.rights,
+      omega arith,
     )
 
 pub overflow_add-to : goal.overflow_add-to
 overflow_add-to c =
     omega (
       arith,
-      named_room field.Argument (λ ws. argument (word ws 2)) core_argument-wide c.loop-due.invariant.0 c.loop-due-test.true c.requires.row_in_bounds
+      named_room field.Argument (λ ws. argument (word ws 2)) core_argument-wide c.loop.invariant.0 (omega arith) c.requires.row_in_bounds
           c.put_name.ensures c.stored_size-to.ensures refl,
     )
 
@@ -34,23 +33,23 @@ put_lead-to-requires c =
     let args = c.args in
     omega (
       arith,
-      named_room field.Argument (λ ws. argument (word ws 2)) core_argument-wide c.loop-due.invariant.0 c.loop-due-test.true c.requires.row_in_bounds
-          c.put_name.ensures c.stored_size-to.ensures (core_argument_words args.row.now c.loop-due.at),
+      named_room field.Argument (λ ws. argument (word ws 2)) core_argument-wide c.loop.invariant.0 (omega arith) c.requires.row_in_bounds
+          c.put_name.ensures c.stored_size-to.ensures (core_argument_words args.row.now c.loop.at),
     )
 
-pub loop-due-preserved : goal.loop-due-preserved
+pub loop-preserved : goal.loop-preserved
 unfolding widths wide
-loop-due-preserved c =
+loop-preserved c =
     let args = c.args in
-    let w = named_put field.Argument (λ ws. argument (word ws 2)) core_argument-wide c.loop-due.invariant.0 c.loop-due-test.true c.requires.row_in_bounds
-    c.put_name.ensures c.stored_size-to.ensures (core_argument_words args.row.now c.loop-due.at) c.put_lead-to.ensures in
-    (putting_next c.loop-due.invariant.0 c.loop-due-test.true w refl, omega arith)
+    let w = named_put field.Argument (λ ws. argument (word ws 2)) core_argument-wide c.loop.invariant.0 (omega arith) c.requires.row_in_bounds
+    c.put_name.ensures c.stored_size-to.ensures (core_argument_words args.row.now c.loop.at) c.put_lead-to.ensures in
+    (put_one c.loop.counter (putting_next c.loop.invariant.0 (omega arith) w refl), omega arith)
 
 pub shape_of-out : goal.shape_of-out
 shape_of-out c =
-    c.loop-due.invariant.0.same
+    c.loop.invariant.0.same
 
 pub returns : goal.returns
 unfolding widths wide
 returns c =
-    (putting_end c.loop-due.due c.loop-due.invariant.0 c.loop-due-test.false).content
+    (putting_end _ c.loop.invariant.0 (omega arith)).content

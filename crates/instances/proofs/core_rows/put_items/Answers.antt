@@ -6,62 +6,61 @@ use Rattle.fields.specs.declared.Field.TheVariants as field
 use Rattle.fields.specs.Words.{word, wide}
 use Rattle.fields.specs.Shape.{widths}
 use Rattle.writing.specs.Binary.{coresortidx}
-use Rattle.writing.proofs.GroupLaws.{putting_start, putting_next, putting_end}
+use Rattle.writing.proofs.GroupLaws.{putting_next, putting_end}
 use Rattle.instances.specs.Table.{coreinlineexport}
 use Rattle.writing.proofs.ElementLaws.{named_right, named_room, named_put}
-use Rattle.instances.proofs.InstanceLaws.{core_item-wide, core_item_words, core_item_low}
+use Rattle.instances.proofs.InstanceLaws.{put_none, put_one, core_item-wide, core_item_words, core_item_low}
 use Rattle.instances.proofs.core_rows.put_items.Goals as goal
 
 -- what stands behind a name
 abbrev second : List ℕ → List ℕ
 second ws = coresortidx (word ws 2) (word ws 3)
 
-pub loop-due-init : goal.loop-due-init
-loop-due-init c =
+pub loop-init : goal.loop-init
+loop-init c =
     let args = c.args in
     let pool = args.pool.now in (
-      putting_start pool (field.Name ∷ field.CoreSortIndex ∷ []) (coreinlineexport pool) args.row.now args.from args.n args.out.now
-          args.base c.requires.rights,
-      refl,
+      put_none pool (field.Name ∷ field.CoreSortIndex ∷ []) (coreinlineexport pool) args.row.now args.from args.n args.base args.out.now c.requires.rights,
+      omega arith,
     )
 
 pub overflow_add-to : goal.overflow_add-to
 overflow_add-to c =
     omega (
       arith,
-      named_room field.CoreSortIndex second core_item-wide c.loop-due.invariant.0 c.loop-due-test.true c.requires.row_in_bounds
+      named_room field.CoreSortIndex second core_item-wide c.loop.invariant.0 (omega arith) c.requires.row_in_bounds
           c.put_name.ensures c.stored_size-to.ensures refl,
     )
 
 pub overflow_cast-row : goal.overflow_cast-row
 overflow_cast-row c =
     let args = c.args in
-    let right = named_right field.CoreSortIndex second core_item-wide c.loop-due.invariant.0 c.loop-due-test.true c.requires.row_in_bounds
+    let right = named_right field.CoreSortIndex second core_item-wide c.loop.invariant.0 (omega arith) c.requires.row_in_bounds
     c.put_name.ensures c.stored_size-to.ensures in
-    omega (arith, core_item_low args.row.now c.loop-due.at args.pool.now right)
+    omega (arith, core_item_low args.row.now c.loop.at args.pool.now right)
 
 pub put_lead-to-requires : goal.put_lead-to-requires
 put_lead-to-requires c =
     let args = c.args in
     omega (
       arith,
-      named_room field.CoreSortIndex second core_item-wide c.loop-due.invariant.0 c.loop-due-test.true c.requires.row_in_bounds
-          c.put_name.ensures c.stored_size-to.ensures (core_item_words args.row.now c.loop-due.at),
+      named_room field.CoreSortIndex second core_item-wide c.loop.invariant.0 (omega arith) c.requires.row_in_bounds
+          c.put_name.ensures c.stored_size-to.ensures (core_item_words args.row.now c.loop.at),
     )
 
-pub loop-due-preserved : goal.loop-due-preserved
+pub loop-preserved : goal.loop-preserved
 unfolding widths wide
-loop-due-preserved c =
+loop-preserved c =
     let args = c.args in
-    let w = named_put field.CoreSortIndex second core_item-wide c.loop-due.invariant.0 c.loop-due-test.true c.requires.row_in_bounds
-    c.put_name.ensures c.stored_size-to.ensures (core_item_words args.row.now c.loop-due.at) c.put_lead-to.ensures in
-    (putting_next c.loop-due.invariant.0 c.loop-due-test.true w refl, omega arith)
+    let w = named_put field.CoreSortIndex second core_item-wide c.loop.invariant.0 (omega arith) c.requires.row_in_bounds
+    c.put_name.ensures c.stored_size-to.ensures (core_item_words args.row.now c.loop.at) c.put_lead-to.ensures in
+    (put_one c.loop.counter (putting_next c.loop.invariant.0 (omega arith) w refl), omega arith)
 
 pub shape_of-out : goal.shape_of-out
 shape_of-out c =
-    c.loop-due.invariant.0.same
+    c.loop.invariant.0.same
 
 pub returns : goal.returns
 unfolding widths wide
 returns c =
-    (putting_end c.loop-due.due c.loop-due.invariant.0 c.loop-due-test.false).content
+    (putting_end _ c.loop.invariant.0 (omega arith)).content

@@ -24,11 +24,11 @@ overflow_add-result c =
     let args = c.args in
     omega (arith, c.unsigned_size.ensures, size_bounds 128 (word args.row.now 1))
 
-pub returns-then-row-n : goal.returns-then-row-n
-returns-then-row-n c =
+pub returns : goal.returns
+returns c =
     let args = c.args in
     let few = size_bounds 128 (word args.row.now 1) in
     record {
-      headed = λ h. record { width = c.if-row-n.true; size = omega (arith, c.unsigned_size.ensures) };
+      headed = record { width = omega arith; size = omega (arith, c.unsigned_size.ensures) };
       upper_bound = omega (arith, c.unsigned_size.ensures, few);
     }

@@ -26,19 +26,19 @@ overflow_add-result c =
     let args = c.args in
     omega (arith, c.unsigned_size.ensures, size_bounds 128 (word args.row.now 1))
 
-pub overflow_add-result-then-row-n : goal.overflow_add-result-then-row-n
-overflow_add-result-then-row-n c =
+pub overflow_add-result-2 : goal.overflow_add-result-2
+overflow_add-result-2 c =
     let args = c.args in
     let row = args.row.now in
-    omega (arith, c.unsigned_size.ensures, c.unsigned_size-then-row-n.ensures, size_bounds 128 (word row 1), size_bounds 128 (word row 2))
+    omega (arith, c.unsigned_size.ensures, c.unsigned_size-2.ensures, size_bounds 128 (word row 1), size_bounds 128 (word row 2))
 
-pub returns-then-row-n : goal.returns-then-row-n
-returns-then-row-n c =
+pub returns : goal.returns
+returns c =
     let args = c.args in
     let row = args.row.now in record {
-      headed = λ h. record {
-        width = c.if-row-n.true;
-        size = omega (arith, c.unsigned_size.ensures, c.unsigned_size-then-row-n.ensures, length-append (unsigned (word row 1)) (unsigned (word row 2)));
+      headed = record {
+        width = omega arith;
+        size = omega (arith, c.unsigned_size.ensures, c.unsigned_size-2.ensures, length-append (unsigned (word row 1)) (unsigned (word row 2)));
       };
-      upper_bound = omega (arith, c.unsigned_size.ensures, c.unsigned_size-then-row-n.ensures, size_bounds 128 (word row 1), size_bounds 128 (word row 2));
+      upper_bound = omega (arith, c.unsigned_size.ensures, c.unsigned_size-2.ensures, size_bounds 128 (word row 1), size_bounds 128 (word row 2));
     }

@@ -2,81 +2,49 @@
 -- right (`name-some`, `name_none`, `value-some`, `step_none`).
 use Prim.Native.Nat.{◌+◌}
 use native.Mathlib.Omega.{arith}
+use mathlib.Core.Path.{sym, ◌∙◌}
 use Rattle.fields.specs.declared.Field.TheVariants as field
-use Rattle.reading.proofs.StepLaws.{going_start, going_end, going_first, going_second, going_next}
-use Rattle.items.proofs.EndLaws.{name-some, name_none, value-some, step_none}
+use Rattle.reading.proofs.StepLaws.{going_end, going_first, going_second, going_next}
+use Rattle.items.proofs.EndLaws.{name-some, name_none, value-some, step_none, going_on}
 use Rattle.items.proofs.groups.fields_end.Goals as goal
 
-pub loop-due-init : goal.loop-due-init
-loop-due-init c = going_start c.requires.1 c.requires.2
-
-pub slice_bounds-name-count : goal.slice_bounds-name-count
-slice_bounds-name-count c = omega (arith, c.loop-due.invariant.inside)
-
-pub slice_bounds-name-start : goal.slice_bounds-name-start
-slice_bounds-name-start c = omega (arith, c.loop-due.invariant.inside)
-
-pub slice_bounds-name-end : goal.slice_bounds-name-end
-slice_bounds-name-end c = omega (arith, c.loop-due.invariant.inside)
-
-pub returns-then-took-eq0 : goal.returns-then-took-eq0
-returns-then-took-eq0 c =
-    let args = c.args in
-    let wrong = name_none args.grade args.input.now c.loop-due.at c.name-one.ensures c.if-took-eq0.true in
-    going_first c.loop-due.invariant c.loop-due-test.true wrong
+pub returns-in_err-one : goal.returns-in_err-one
+returns-in_err-one c =
+    let wrong = name_none c.args.grade c.args.input.now c.loop.at (sym c.in_err-one.was ∙ c.name.ensures) in
+    c.from_residual.ensures ∙ going_first c.loop.invariant (omega arith) wrong
 
 pub overflow_add-at : goal.overflow_add-at
 overflow_add-at c =
-    let args = c.args in
-    let one = name-some args.grade args.input.now c.loop-due.at c.name-one.ensures c.if-took-eq0.false in
-    omega (arith, one.1, c.loop-due.invariant.inside, c.requires.0)
+    let one = name-some c.args.grade c.args.input.now c.loop.at (sym c.in_ok-one.was ∙ c.name.ensures) in
+    omega (arith, one.1, c.loop.invariant.inside, c.requires.0)
 
 pub slice_bounds-value-count : goal.slice_bounds-value-count
 slice_bounds-value-count c =
-    let args = c.args in
-    let one = name-some args.grade args.input.now c.loop-due.at c.name-one.ensures c.if-took-eq0.false in
-    omega (arith, one.1, c.loop-due.invariant.inside)
+    let one = name-some c.args.grade c.args.input.now c.loop.at (sym c.in_ok-one.was ∙ c.name.ensures) in
+    omega (arith, one.1, c.loop.invariant.inside)
 
 pub slice_bounds-value-start : goal.slice_bounds-value-start
 slice_bounds-value-start c =
-    let args = c.args in
-    let one = name-some args.grade args.input.now c.loop-due.at c.name-one.ensures c.if-took-eq0.false in
-    omega (arith, one.1, c.loop-due.invariant.inside)
+    let one = name-some c.args.grade c.args.input.now c.loop.at (sym c.in_ok-one.was ∙ c.name.ensures) in
+    omega (arith, one.1, c.loop.invariant.inside)
 
-pub slice_bounds-value-end : goal.slice_bounds-value-end
-slice_bounds-value-end c =
-    let args = c.args in
-    let one = name-some args.grade args.input.now c.loop-due.at c.name-one.ensures c.if-took-eq0.false in
-    omega (arith, one.1, c.loop-due.invariant.inside)
+pub returns-in_err-two : goal.returns-in_err-two
+returns-in_err-two c =
+    let one = name-some c.args.grade c.args.input.now c.loop.at (sym c.in_ok-one.was ∙ c.name.ensures) in
+    let wrong = step_none c.args.grade field.Value c.args.input.now (c.loop.at + c.in_ok-one.one.took) (sym c.in_err-two.was ∙ c.value.ensures) in
+    c.from_residual-in_err-two.ensures ∙ going_second c.loop.invariant (omega arith) one.0 wrong
 
-pub returns-then-more-eq0 : goal.returns-then-more-eq0
-returns-then-more-eq0 c =
-    let args = c.args in
-    let one = name-some args.grade args.input.now c.loop-due.at c.name-one.ensures c.if-took-eq0.false in
-    let wrong =
-    step_none args.grade field.Value args.input.now (c.loop-due.at + c.name-one.result.took) tt c.value-two.ensures c.if-more-eq0.true
-    in
-    going_second c.loop-due.invariant c.loop-due-test.true one.0 wrong
+pub overflow_add-at-in-loop : goal.overflow_add-at-in-loop
+overflow_add-at-in-loop c =
+    let one = name-some c.args.grade c.args.input.now c.loop.at (sym c.in_ok-one.was ∙ c.name.ensures) in
+    let two = value-some c.args.grade c.args.input.now (c.loop.at + c.in_ok-one.one.took) (sym c.in_ok-two.was ∙ c.value.ensures) in
+    omega (arith, one.1, two.1, c.loop.invariant.inside, c.requires.0)
 
-pub overflow_add-at-in-loop-due : goal.overflow_add-at-in-loop-due
-overflow_add-at-in-loop-due c =
-    let args = c.args in
-    let one = name-some args.grade args.input.now c.loop-due.at c.name-one.ensures c.if-took-eq0.false in
-    let two = value-some args.grade args.input.now (c.loop-due.at + c.name-one.result.took) c.value-two.ensures c.if-more-eq0.false in
-    omega (arith, one.1, two.1, c.loop-due.invariant.inside, c.requires.0)
-
-pub overflow_sub-due : goal.overflow_sub-due
-overflow_sub-due c = omega (arith, c.loop-due-test.true)
-
-pub loop-due-smaller : goal.loop-due-smaller
-loop-due-smaller c = omega (arith, c.loop-due-test.true)
-
-pub loop-due-preserved : goal.loop-due-preserved
-loop-due-preserved c =
-    let args = c.args in
-    let one = name-some args.grade args.input.now c.loop-due.at c.name-one.ensures c.if-took-eq0.false in
-    let two = value-some args.grade args.input.now (c.loop-due.at + c.name-one.result.took) c.value-two.ensures c.if-more-eq0.false in
-    going_next c.loop-due.invariant c.loop-due-test.true one.0 two.0
+pub loop-preserved : goal.loop-preserved
+loop-preserved c =
+    let one = name-some c.args.grade c.args.input.now c.loop.at (sym c.in_ok-one.was ∙ c.name.ensures) in
+    let two = value-some c.args.grade c.args.input.now (c.loop.at + c.in_ok-one.one.took) (sym c.in_ok-two.was ∙ c.value.ensures) in
+    going_on _ (going_next c.loop.invariant (omega arith) one.0 two.0)
 
 pub returns : goal.returns
-returns c = going_end c.loop-due.invariant c.loop-due-test.false
+returns c = going_end c.loop.invariant (omega arith)

@@ -1,125 +1,89 @@
 -- `fill_cases` meets its contract: the loop's invariant is `Filling`: what is due of the groups, stored here, leaves what the whole
 -- leaves; a round stores the words of a label, an O and 00.
+use Rattle.std.specs.Prelude.{IsSome}
 use Prim.Native.Nat.{◌+◌, ◌≤◌}
 use native.Mathlib.Omega.{arith}
+use mathlib.Core.Path.{sym, ◌∙◌, subst}
 use lib.ListN.{length, length-set}
 use Rattle.fields.specs.Words.{wide}
 use Rattle.fields.specs.Shape.{widths}
-use Rattle.reading.proofs.FillLaws.{filling_start, filling_first, filling_end}
-use Rattle.items.proofs.WordLaws.{room_of, cases_wide, named, second-stands, closed, case_next}
+use Rattle.reading.proofs.FillLaws.{filling_first, filling_end}
+use Rattle.items.proofs.WordLaws.{filling_from, filling_on, room_of, cases_wide, length_seen, named, second-stands, optional_seen, closed, case_next}
 use Rattle.items.proofs.groups.fill_cases.Goals as goal
-use Rattle.items.proofs.groups.fill_cases.Goals.{In-loop-due}
+use Rattle.items.proofs.groups.fill_cases.Goals.{In-loop}
 
 -- in a round, the next group has room
-room : (c : In-loop-due) → c.loop-due.to + 4 ≤ length c.loop-due.row
-room c = room_of c.loop-due.invariant c.loop-due-test.true 4 cases_wide
+room : (c : In-loop) → c.loop.to + 4 ≤ length c.loop.row
+room c = room_of c.loop.invariant (omega arith) 4 cases_wide
 
-pub loop-due-init : goal.loop-due-init
+pub loop-init : goal.loop-init
 unfolding widths wide
-loop-due-init c =
-    filling_start c.requires.input_len_bound.1 c.requires.input_len_bound.2 c.requires.nonzero
+loop-init c =
+    filling_from c.requires.input_len_bound.1 c.requires.input_len_bound.2 c.requires.right
 
-pub slice_bounds-seen_unsigned-count : goal.slice_bounds-seen_unsigned-count
-slice_bounds-seen_unsigned-count c = omega (arith, c.loop-due.invariant.inside)
-
-pub slice_bounds-seen_unsigned-start : goal.slice_bounds-seen_unsigned-start
-slice_bounds-seen_unsigned-start c = omega (arith, c.loop-due.invariant.inside)
-
-pub slice_bounds-seen_unsigned-end : goal.slice_bounds-seen_unsigned-end
-slice_bounds-seen_unsigned-end c = omega (arith, c.loop-due.invariant.inside)
+pub unwrap-one-requires : goal.unwrap-one-requires
+unwrap-one-requires c =
+    subst IsSome (sym c.seen_unsigned.ensures) (length_seen (filling_first c.loop.invariant (omega arith)))
 
 pub overflow_add-start : goal.overflow_add-start
 overflow_add-start c =
-    let name = named (filling_first c.loop-due.invariant c.loop-due-test.true) c.seen_unsigned-one.ensures in
+    let name = named (filling_first c.loop.invariant (omega arith)) (sym c.unwrap-one.ensures ∙ c.seen_unsigned.ensures) in
     omega (arith, name.ends, c.requires.input_len_bound.0)
 
 pub overflow_cast-row : goal.overflow_cast-row
 overflow_cast-row c =
-    let name = named (filling_first c.loop-due.invariant c.loop-due-test.true) c.seen_unsigned-one.ensures in
+    let name = named (filling_first c.loop.invariant (omega arith)) (sym c.unwrap-one.ensures ∙ c.seen_unsigned.ensures) in
     omega (arith, name.ends, c.requires.input_len_bound.0)
 
-pub offset_bounds-row-to : goal.offset_bounds-row-to
-offset_bounds-row-to c = omega (arith, room (goal.at.offset_bounds-row-to c).In-loop-due)
-
 pub bounds-row-to : goal.bounds-row-to
-bounds-row-to c = omega (arith, room (goal.at.bounds-row-to c).In-loop-due)
+bounds-row-to c = omega (arith, room (goal.at.bounds-row-to c).In-loop)
 
-pub overflow_add-row : goal.overflow_add-row
-overflow_add-row c = omega (arith, room (goal.at.overflow_add-row c).In-loop-due)
-
-pub offset_bounds-row-to-in-loop-due : goal.offset_bounds-row-to-in-loop-due
-offset_bounds-row-to-in-loop-due c = omega (arith, room (goal.at.offset_bounds-row-to-in-loop-due c).In-loop-due)
-
-pub bounds-row-to-in-loop-due : goal.bounds-row-to-in-loop-due
-bounds-row-to-in-loop-due c = let there = room (goal.at.bounds-row-to-in-loop-due c).In-loop-due in simp length-set (omega arith)
+pub bounds-row-to-in-loop : goal.bounds-row-to-in-loop
+bounds-row-to-in-loop c = let there = room (goal.at.bounds-row-to-in-loop c).In-loop in simp length-set (omega arith)
 
 pub overflow_add-at : goal.overflow_add-at
 overflow_add-at c =
-    let name = named (filling_first c.loop-due.invariant c.loop-due-test.true) c.seen_unsigned-one.ensures in
+    let name = named (filling_first c.loop.invariant (omega arith)) (sym c.unwrap-one.ensures ∙ c.seen_unsigned.ensures) in
     omega (arith, name.ends, c.requires.input_len_bound.0)
 
 pub slice_bounds-optional-count : goal.slice_bounds-optional-count
 slice_bounds-optional-count c =
-    let name = named (filling_first c.loop-due.invariant c.loop-due-test.true) c.seen_unsigned-one.ensures in
+    let name = named (filling_first c.loop.invariant (omega arith)) (sym c.unwrap-one.ensures ∙ c.seen_unsigned.ensures) in
     omega (arith, name.ends, c.requires.input_len_bound.0)
 
 pub slice_bounds-optional-start : goal.slice_bounds-optional-start
 slice_bounds-optional-start c =
-    let name = named (filling_first c.loop-due.invariant c.loop-due-test.true) c.seen_unsigned-one.ensures in
+    let name = named (filling_first c.loop.invariant (omega arith)) (sym c.unwrap-one.ensures ∙ c.seen_unsigned.ensures) in
     omega (arith, name.ends, c.requires.input_len_bound.0)
 
-pub slice_bounds-optional-end : goal.slice_bounds-optional-end
-slice_bounds-optional-end c =
-    let name = named (filling_first c.loop-due.invariant c.loop-due-test.true) c.seen_unsigned-one.ensures in
-    omega (arith, name.ends, c.requires.input_len_bound.0)
+pub unwrap-two-requires : goal.unwrap-two-requires
+unwrap-two-requires c =
+    let name = named (filling_first c.loop.invariant (omega arith)) (sym c.unwrap-one.ensures ∙ c.seen_unsigned.ensures) in
+    subst IsSome (sym c.optional.ensures) (optional_seen (second-stands c.loop.invariant (omega arith) name))
 
-pub overflow_add-row-in-loop-due : goal.overflow_add-row-in-loop-due
-overflow_add-row-in-loop-due c = omega (arith, room (goal.at.overflow_add-row-in-loop-due c).In-loop-due)
+pub bounds-row-to-in-loop-2 : goal.bounds-row-to-in-loop-2
+bounds-row-to-in-loop-2 c = let there = room (goal.at.bounds-row-to-in-loop-2 c).In-loop in simp length-set (omega arith)
 
-pub offset_bounds-row-to-in-loop-due-2 : goal.offset_bounds-row-to-in-loop-due-2
-offset_bounds-row-to-in-loop-due-2 c = omega (arith, room (goal.at.offset_bounds-row-to-in-loop-due-2 c).In-loop-due)
+pub bounds-row-to-in-loop-3 : goal.bounds-row-to-in-loop-3
+bounds-row-to-in-loop-3 c = let there = room (goal.at.bounds-row-to-in-loop-3 c).In-loop in simp length-set (omega arith)
 
-pub bounds-row-to-in-loop-due-2 : goal.bounds-row-to-in-loop-due-2
-bounds-row-to-in-loop-due-2 c = let there = room (goal.at.bounds-row-to-in-loop-due-2 c).In-loop-due in simp length-set (omega arith)
-
-pub overflow_add-row-in-loop-due-2 : goal.overflow_add-row-in-loop-due-2
-overflow_add-row-in-loop-due-2 c = omega (arith, room (goal.at.overflow_add-row-in-loop-due-2 c).In-loop-due)
-
-pub offset_bounds-row-to-in-loop-due-3 : goal.offset_bounds-row-to-in-loop-due-3
-offset_bounds-row-to-in-loop-due-3 c = omega (arith, room (goal.at.offset_bounds-row-to-in-loop-due-3 c).In-loop-due)
-
-pub bounds-row-to-in-loop-due-3 : goal.bounds-row-to-in-loop-due-3
-bounds-row-to-in-loop-due-3 c = let there = room (goal.at.bounds-row-to-in-loop-due-3 c).In-loop-due in simp length-set (omega arith)
-
-pub overflow_add-at-in-loop-due : goal.overflow_add-at-in-loop-due
-overflow_add-at-in-loop-due c =
-    let name = named (filling_first c.loop-due.invariant c.loop-due-test.true) c.seen_unsigned-one.ensures in
-    let two = closed (second-stands c.loop-due.invariant c.loop-due-test.true name) c.optional-two.ensures in
+pub overflow_add-at-in-loop : goal.overflow_add-at-in-loop
+overflow_add-at-in-loop c =
+    let name = named (filling_first c.loop.invariant (omega arith)) (sym c.unwrap-one.ensures ∙ c.seen_unsigned.ensures) in
+    let two = closed (second-stands c.loop.invariant (omega arith) name) name.ends (sym c.unwrap-two.ensures ∙ c.optional.ensures) in
     omega (arith, two.ends, c.requires.input_len_bound.0)
 
-pub overflow_add-at-in-loop-due-2 : goal.overflow_add-at-in-loop-due-2
-overflow_add-at-in-loop-due-2 c =
-    let name = named (filling_first c.loop-due.invariant c.loop-due-test.true) c.seen_unsigned-one.ensures in
-    let two = closed (second-stands c.loop-due.invariant c.loop-due-test.true name) c.optional-two.ensures in
+pub overflow_add-at-in-loop-2 : goal.overflow_add-at-in-loop-2
+overflow_add-at-in-loop-2 c =
+    let name = named (filling_first c.loop.invariant (omega arith)) (sym c.unwrap-one.ensures ∙ c.seen_unsigned.ensures) in
+    let two = closed (second-stands c.loop.invariant (omega arith) name) name.ends (sym c.unwrap-two.ensures ∙ c.optional.ensures) in
     omega (arith, two.ends, c.requires.input_len_bound.0)
 
-pub overflow_add-to : goal.overflow_add-to
-overflow_add-to c = omega (arith, room (goal.at.overflow_add-to c).In-loop-due)
-
-pub overflow_sub-due : goal.overflow_sub-due
-overflow_sub-due c = omega arith
-
-pub loop-due-smaller : goal.loop-due-smaller
-loop-due-smaller c = omega arith
-
-pub loop-due-preserved : goal.loop-due-preserved
-loop-due-preserved c =
-    let name = named (filling_first c.loop-due.invariant c.loop-due-test.true) c.seen_unsigned-one.ensures in
-    let two = closed (second-stands c.loop-due.invariant c.loop-due-test.true name) c.optional-two.ensures in
-    case_next c.loop-due.invariant c.loop-due-test.true name two
-
-pub shape_of-row : goal.shape_of-row
-shape_of-row c = c.loop-due.invariant.same_size
+pub loop-preserved : goal.loop-preserved
+loop-preserved c =
+    let name = named (filling_first c.loop.invariant (omega arith)) (sym c.unwrap-one.ensures ∙ c.seen_unsigned.ensures) in
+    let two = closed (second-stands c.loop.invariant (omega arith) name) name.ends (sym c.unwrap-two.ensures ∙ c.optional.ensures) in
+    filling_on _ (case_next c.loop.invariant (omega arith) name two)
 
 pub returns : goal.returns
-returns c = filling_end c.loop-due.invariant c.loop-due-test.false
+returns c = filling_end c.loop.invariant (omega arith)

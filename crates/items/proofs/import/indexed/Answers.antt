@@ -1,29 +1,26 @@
--- `indexed` meets its contract: its test is that of `indexed_is`, and an index has at most five bytes (`index_taken`).
-use Prim.Native.Nat.{ℕ}
+-- `indexed` meets its contract: an index is what is seen behind k bytes, and has at most five (`index_taken`).
+use Rattle.std.specs.Prelude.{ℕ, List}
 use native.Mathlib.Omega.{arith}
-use mathlib.Core.Path.{ap, ◌∙◌}
-use mathlib.Core.List.{List}
+use mathlib.Core.Path.{sym, ap, ◌∙◌}
 use Rattle.numbers.proofs.BytesLaws.{to_end}
 use Rattle.numbers.specs.Leb.{take_unsigned}
 use Rattle.numbers.specs.Seen.{seen}
 use Rattle.items.proofs.ReferenceLaws.{index_taken, indexed_some, indexed_none}
 use Rattle.items.proofs.import.indexed.Goals as goal
 
+pub returns-in_err-n : goal.returns-in_err-n
+returns-in_err-n c =
+    let bs = c.args.bs.now in
+    let is = c.seen_unsigned.ensures ∙ ap (λ (s : List ℕ). seen (take_unsigned s)) (to_end bs c.args.k) in
+    c.from_residual.ensures ∙ indexed_none c.args.sort c.args.k bs (sym c.in_err-n.was ∙ is)
+
 pub overflow_add-result : goal.overflow_add-result
 overflow_add-result c =
-    let size = (index_taken _ _ c.seen_unsigned-n.ensures c.if-took-gt0.true).1 in
+    let size = (index_taken _ _ (sym c.in_ok-n.was ∙ c.seen_unsigned.ensures)).1 in
     omega arith
-
-pub returns-then-took-gt0 : goal.returns-then-took-gt0
-returns-then-took-gt0 c =
-    let a = c.args in
-    let bs = a.bs.now in
-    let is = c.seen_unsigned-n.ensures ∙ ap (λ (s : List ℕ). seen (take_unsigned s)) (to_end bs a.k) in
-    indexed_some a.sort a.k bs _ is c.if-took-gt0.true
 
 pub returns : goal.returns
 returns c =
-    let a = c.args in
-    let bs = a.bs.now in
-    let is = c.seen_unsigned-n.ensures ∙ ap (λ (s : List ℕ). seen (take_unsigned s)) (to_end bs a.k) in
-    c.no_three.ensures ∙ indexed_none a.sort a.k bs _ is c.if-took-gt0.false
+    let bs = c.args.bs.now in
+    let is = c.seen_unsigned.ensures ∙ ap (λ (s : List ℕ). seen (take_unsigned s)) (to_end bs c.args.k) in
+    indexed_some c.args.sort c.args.k bs _ (sym c.in_ok-n.was ∙ is)

@@ -3,52 +3,48 @@
 use native.Mathlib.Omega.{arith}
 use mathlib.Core.Path.{◌∙◌, sym, ap}
 use Rattle.numbers.proofs.BytesLaws.{to_end}
+use Rattle.reading.specs.inside.Tried.{left_tried}
 use Rattle.items.specs.inside.Import.{three}
 use Rattle.items.proofs.OnceLaws.{extern_some, import_unnamed, import_unreferred, import_inside, import_wide, import_done}
 use Rattle.items.proofs.import.read_straight.Goals as goal
 
-pub returns-then-next-eq0 : goal.returns-then-next-eq0
-returns-then-next-eq0 c =
+pub returns-in_err-e : goal.returns-in_err-e
+returns-in_err-e c =
     let a = c.args in
-    import_unnamed a.grade a.input.now a.row.now _ c.extern_name-e.ensures c.if-next-eq0.true
+    ap (λ l. left_tried l a.row.now) c.from_residual.ensures ∙ import_unnamed a.grade a.input.now a.row.now c.in_err-e.ensures
 
 pub slice_bounds-reference-count : goal.slice_bounds-reference-count
 slice_bounds-reference-count c =
     let a = c.args in
-    let some = extern_some a.grade a.input.now _ c.extern_name-e.ensures (omega (arith, c.if-next-eq0.false)) in
-    omega (arith, some.2)
+    omega (arith, (extern_some a.grade a.input.now _ c.in_ok-e.ensures).2)
 
 pub slice_bounds-reference-start : goal.slice_bounds-reference-start
 slice_bounds-reference-start c =
     let a = c.args in
-    let some = extern_some a.grade a.input.now _ c.extern_name-e.ensures (omega (arith, c.if-next-eq0.false)) in
-    omega (arith, some.2)
+    omega (arith, (extern_some a.grade a.input.now _ c.in_ok-e.ensures).2)
 
-pub returns-then-more-eq0 : goal.returns-then-more-eq0
-returns-then-more-eq0 c =
+pub returns-in_err-r : goal.returns-in_err-r
+returns-in_err-r c =
     let a = c.args in
-    let is = c.reference-r.ensures ∙ ap (λ s. three a.grade s) (to_end a.input.now _) in
-    import_unreferred a.grade a.input.now a.row.now _ c.extern_name-e.ensures (omega (arith, c.if-next-eq0.false))
-    (sym (ap (λ r. r.took) is) ∙ c.if-more-eq0.true)
+    let is = c.reference.ensures ∙ ap (λ s. three a.grade s) (to_end a.input.now _) in
+    ap (λ l. left_tried l a.row.now) c.from_residual-in_err-r.ensures
+    ∙ import_unreferred a.grade a.input.now a.row.now _ c.in_ok-e.ensures (sym c.in_err-r.was ∙ is)
 
 pub returns-then-row-lt15 : goal.returns-then-row-lt15
 returns-then-row-lt15 c =
     let a = c.args in
-    let is = c.reference-r.ensures ∙ ap (λ s. three a.grade s) (to_end a.input.now _) in
-    import_wide a.grade a.input.now a.row.now _ c.extern_name-e.ensures (omega (arith, c.if-next-eq0.false))
-    _ is (omega (arith, c.if-more-eq0.false)) c.if-row-lt15.true
+    let is = c.reference.ensures ∙ ap (λ s. three a.grade s) (to_end a.input.now _) in
+    import_wide a.grade a.input.now a.row.now _ c.in_ok-e.ensures _ (sym c.in_ok-r.was ∙ is) c.if-row-lt15.true
 
 pub overflow_add-result : goal.overflow_add-result
 overflow_add-result c =
     let a = c.args in
-    let is = c.reference-r.ensures ∙ ap (λ s. three a.grade s) (to_end a.input.now _) in
-    let inside = import_inside a.grade a.input.now a.row.now _ c.extern_name-e.ensures
-    (omega (arith, c.if-next-eq0.false)) _ is (omega (arith, c.if-more-eq0.false)) in
-    omega (arith, inside, c.requires.1)
+    let is = c.reference.ensures ∙ ap (λ s. three a.grade s) (to_end a.input.now _) in
+    omega (arith, import_inside a.grade a.input.now a.row.now _ c.in_ok-e.ensures _ (sym c.in_ok-r.was ∙ is), c.requires.1)
 
 pub returns : goal.returns
 returns c =
     let a = c.args in
-    let is = c.reference-r.ensures ∙ ap (λ s. three a.grade s) (to_end a.input.now _) in
-    import_done a.grade a.input.now a.row.now _ c.extern_name-e.ensures (omega (arith, c.if-next-eq0.false))
-    _ is (omega (arith, c.if-more-eq0.false)) _ c.if-row-lt15.false c.store_import.ensures
+    let is = c.reference.ensures ∙ ap (λ s. three a.grade s) (to_end a.input.now _) in
+    import_done a.grade a.input.now a.row.now _ c.in_ok-e.ensures _ (sym c.in_ok-r.was ∙ is) _ c.if-row-lt15.false
+    c.store_import.ensures

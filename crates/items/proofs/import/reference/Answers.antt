@@ -2,7 +2,6 @@
 use mathlib.Core.Path.{◌∙◌}
 use Rattle.items.proofs.ReferenceLaws.{reference_empty, reference_indexed, reference_other}
 use Rattle.items.proofs.import.reference.Goals as goal
-use Rattle.items.proofs.import.reference.Goals.{then-bs-gt0+else-sort-eq3+else-sort-eq2+else-sort-eq0+else-sort-lt6, else-bs-gt0}
 
 pub returns-then-sort-eq3 : goal.returns-then-sort-eq3
 returns-then-sort-eq3 c = c.bound.ensures c.args.grade
@@ -16,9 +15,8 @@ returns-then-sort-lt6 c =
     ∙ reference_indexed c.args.grade c.args.bs.now c.if-bs-gt0.true c.if-sort-eq3.false
     c.if-sort-eq2.false c.if-sort-eq0.false c.if-sort-lt6.true
 
-pub returns : goal.returns
-returns c =
-    elim c.if-bs-gt0.branch [
-      | then-bs-gt0+else-sort-eq3+else-sort-eq2+else-sort-eq0+else-sort-lt6 w ↦ c.no_three.ensures ∙ reference_other c.args.grade c.args.bs.now w.if-bs-gt0.true w.if-sort-lt6.false
-      | else-bs-gt0 w ↦ c.no_three.ensures ∙ reference_empty c.args.grade c.args.bs.now w.if-bs-gt0.false
-    ]
+pub returns-else-sort-lt6 : goal.returns-else-sort-lt6
+returns-else-sort-lt6 c = reference_other c.args.grade c.args.bs.now c.if-bs-gt0.true c.if-sort-lt6.false
+
+pub returns-else-bs-gt0 : goal.returns-else-bs-gt0
+returns-else-bs-gt0 c = reference_empty c.args.grade c.args.bs.now c.if-bs-gt0.false

@@ -19,12 +19,6 @@ overflow_add-out-in-loop-k c = omega arith
 pub bounds-out-to : goal.bounds-out-to
 bounds-out-to c = omega arith
 
-pub overflow_add-k : goal.overflow_add-k
-overflow_add-k c = omega arith
-
-pub loop-k-smaller : goal.loop-k-smaller
-loop-k-smaller c = omega arith
-
 pub loop-k-preserved : goal.loop-k-preserved
 loop-k-preserved c =
     (omega arith, rw get_or-drop at (held-byte c.loop-k.invariant.1 (simp length-drop (omega arith))))

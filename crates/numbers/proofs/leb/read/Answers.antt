@@ -58,12 +58,6 @@ overflow_add-low c = omega (arith, scaled (goal.at.overflow_add-low c).In-loop-i
 pub overflow_mul-scale : goal.overflow_mul-scale
 overflow_mul-scale c = omega (arith, scale_bound c.loop-i.i c.loop-i-test.true)
 
-pub overflow_add-i : goal.overflow_add-i
-overflow_add-i c = omega arith
-
-pub loop-i-smaller : goal.loop-i-smaller
-loop-i-smaller c = omega arith
-
 pub loop-i-preserved : goal.loop-i-preserved
 loop-i-preserved c =
     again c.loop-i.invariant c.loop-i-test.true c.if-input-i.false c.if-b-lt128.false (omega (arith, c.type_inv.input c.loop-i.i))

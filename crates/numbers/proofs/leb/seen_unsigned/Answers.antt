@@ -3,7 +3,6 @@ use Rattle.std.proofs.Common.{sym, ap, ◌∙◌}
 use Rattle.numbers.specs.Integers.{u32}
 use Rattle.numbers.specs.Leb.{take_unsigned}
 use Rattle.numbers.specs.Seen.{seen}
-use Rattle.numbers.proofs.BytesLaws.{to_end}
 use Rattle.numbers.proofs.SeenLaws.{seen_value, take-low}
 use Rattle.numbers.proofs.leb.seen_unsigned.Goals as goal
 
@@ -13,6 +12,4 @@ returns-then-b-lt128 c =
     sym (seen_value (take_unsigned s) _ _ (take-low u32 s c.if-input-gt0.true c.if-b-lt128.true))
 
 pub returns : goal.returns
-returns c =
-    let s = c.args.input.now in
-    c.number_of.ensures ∙ ap seen (c.take_unsigned.ensures ∙ ap take_unsigned (to_end s 0))
+returns c = c.ok.ensures.value ∙ ap seen c.take_unsigned.ensures

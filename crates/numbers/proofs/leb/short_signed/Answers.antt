@@ -1,5 +1,6 @@
 -- `numbers::short_signed` meets its contract: the ways out are `short-few`, `short-low`, `short_above` and `short_below` of
 -- `proofs/SeenLaws.antt`. Assumes nothing.
+use Rattle.std.specs.Prelude.{Some}
 use Rattle.std.proofs.Common.{◌+◌, ◌/◌, ◌<◌, get_or, sym, ◌∙◌, arith}
 use Rattle.numbers.specs.Seen.{number}
 use Rattle.numbers.proofs.SeenLaws.{short-few, short-low, short_above, short_below}
@@ -7,12 +8,12 @@ use Rattle.numbers.proofs.leb.short_signed.Goals as goal
 use Rattle.numbers.proofs.leb.short_signed.Goals.{After-shared_slice_known-3-1}
 
 pub returns-then-input-lt3 : goal.returns-then-input-lt3
-returns-then-input-lt3 c = c.no_number.ensures ∙ sym (short-few c.args.input.now c.if-input-lt3.true)
+returns-then-input-lt3 c = sym (short-few c.args.input.now c.if-input-lt3.true)
 
 pub returns-then-b-lt128 : goal.returns-then-b-lt128
 returns-then-b-lt128 c =
     let s = c.args.input.now in
-    c.no_number-then-b-lt128.ensures ∙ sym (short-low s c.if-input-lt3.false c.if-b-lt128.true)
+    sym (short-low s c.if-input-lt3.false c.if-b-lt128.true)
 
 -- the bytes are bytes
 first : (c : After-shared_slice_known-3-1) → get_or c.args.input.now 0 0 < 256
@@ -32,8 +33,7 @@ bounds-input-more c = omega (arith, second (goal.at.bounds-input-more c).After-s
 
 pub returns-then-last-ge64 : goal.returns-then-last-ge64
 returns-then-last-ge64 c =
-    c.no_number-then-last-ge64.ensures
-    ∙ short_above c.args.input.now c.if-input-lt3.false c.if-b-lt128.false (first (goal.at.returns-then-last-ge64 c).After-shared_slice_known-3-1) (second (goal.at.returns-then-last-ge64 c).After-shared_slice_known-3-1)
+    short_above c.args.input.now c.if-input-lt3.false c.if-b-lt128.false (first (goal.at.returns-then-last-ge64 c).After-shared_slice_known-3-1) (second (goal.at.returns-then-last-ge64 c).After-shared_slice_known-3-1)
     c.if-last-ge64.true
 
 pub overflow_add-result : goal.overflow_add-result
@@ -42,5 +42,5 @@ overflow_add-result c = omega (arith, second (goal.at.overflow_add-result c).Aft
 pub returns : goal.returns
 returns c =
     let s = c.args.input.now in
-    (λ i. number (c.joined.ensures i) (2 + get_or s 1 0 / 128))
+    (λ i. Some (number (c.joined.ensures i) (2 + get_or s 1 0 / 128)))
     ∙ short_below s c.if-input-lt3.false c.if-b-lt128.false (first (goal.at.returns c).After-shared_slice_known-3-1) (second (goal.at.returns c).After-shared_slice_known-3-1) c.if-last-ge64.false

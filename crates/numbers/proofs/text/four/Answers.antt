@@ -1,7 +1,8 @@
 -- `numbers::text::four` meets its contract: its second, third and fourth byte follow, or one of them breaks the sequence.
+use Rattle.std.specs.Prelude.{Ok}
 use Rattle.std.proofs.Common.{◌+◌, [], ◌∷◌, sym, refl, ◌∙◌, arith}
 use Rattle.numbers.specs.Text.{◌to◌}
-use Rattle.numbers.specs.declared.text.Sequence.TheVariants.{Whole, Breaks}
+use Rattle.numbers.specs.inside.Sequence.{Breaks}
 use Rattle.numbers.proofs.TextRows.{took, broke, whole, follow_within}
 use Rattle.numbers.proofs.text.four.Goals as goal
 
@@ -21,9 +22,9 @@ returns-then-follows-3 c =
     let e₂ = sym c.follows.ensures ∙ c.if-follows.true in
     let e₃ = sym c.follows-then-follows.ensures ∙ c.if-follows-2.true in
     let e₄ = sym c.follows-then-follows-2.ensures ∙ c.if-follows-3.true in
-    took a.low2 a.high2 (a.low3 to a.high3 ∷ a.low4 to a.high4 ∷ []) s (a.i + 1) (a.i + 2) a.i (Whole 4) e₂ (omega arith)
-    (took a.low3 a.high3 (a.low4 to a.high4 ∷ []) s (a.i + 2) (a.i + 3) a.i (Whole 4) e₃ (omega arith)
-    (took a.low4 a.high4 [] s (a.i + 3) (a.i + 4) a.i (Whole 4) e₄ (omega arith)
+    took a.low2 a.high2 (a.low3 to a.high3 ∷ a.low4 to a.high4 ∷ []) s (a.i + 1) (a.i + 2) a.i (Ok 4) e₂ (omega arith)
+    (took a.low3 a.high3 (a.low4 to a.high4 ∷ []) s (a.i + 2) (a.i + 3) a.i (Ok 4) e₃ (omega arith)
+    (took a.low4 a.high4 [] s (a.i + 3) (a.i + 4) a.i (Ok 4) e₄ (omega arith)
     (whole s (a.i + 4) a.i 4 refl (omega (arith, follow_within a.low4 a.high4 s (a.i + 3) e₄)) (omega arith))))
 
 pub returns-then-follows-2 : goal.returns-then-follows-2

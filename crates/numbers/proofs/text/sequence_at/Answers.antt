@@ -1,7 +1,7 @@
 -- `numbers::text::sequence_at` meets its contract: an arm is a row of the table (`found`), and `_` is between two rows or past the last one
 -- (`missed`).
+use Rattle.std.specs.Prelude.{Ok}
 use Rattle.std.proofs.Common.{◌+◌, [], get_or, refl, arith}
-use Rattle.numbers.specs.declared.text.Sequence.TheVariants.{Whole}
 use Rattle.numbers.proofs.TextRows.{nth, found, missed, began, unbegun, whole}
 use Rattle.numbers.proofs.text.sequence_at.Goals as goal
 
@@ -33,7 +33,7 @@ pub returns-in-0-to-127 : goal.returns-in-0-to-127
 returns-in-0-to-127 c =
     let a = c.args in
     let s = a.name.now in
-    began [] s a.i (Whole 1) (omega arith) (found 0 (get_or s a.i 0) tt tt (omega arith) (omega arith))
+    began [] s a.i (Ok 1) (omega arith) (found 0 (get_or s a.i 0) tt tt (omega arith) (omega arith))
     (whole s (a.i + 1) a.i 1 refl (omega arith) (omega arith))
 
 pub returns-in-194-to-223 : goal.returns-in-194-to-223

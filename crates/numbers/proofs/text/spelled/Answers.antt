@@ -3,7 +3,7 @@
 use Rattle.std.proofs.Common.{[], sym, refl, ap, ◌∙◌, subst, arith}
 use Rattle.numbers.specs.Text.{text, stop}
 use Rattle.numbers.specs.inside.Sequences.{Ends}
-use Rattle.numbers.specs.declared.text.Spelling.TheVariants.{Stops}
+use Rattle.numbers.specs.Spelling.{Stops}
 use Rattle.numbers.proofs.TextLaws.{spelled_right, spelled_wrong, stop-within}
 use Rattle.numbers.proofs.TextRows.{ended}
 use Rattle.numbers.proofs.text.spelled.Goals as goal
@@ -15,31 +15,31 @@ loop-i-init c = (omega arith, (refl, omega arith))
 pub overflow_add-i : goal.overflow_add-i
 overflow_add-i c =
     let s = c.args.name.now in
-    let w = subst (Ends [] s _ _) c.in-Whole.is c.sequence_at.ensures in
+    let w = subst (Ends [] s _ _) c.in-Ok.is c.sequence_at.ensures in
     omega (arith, w.0.1)
 
 pub loop-i-smaller : goal.loop-i-smaller
 loop-i-smaller c =
     let s = c.args.name.now in
-    let w = subst (Ends [] s _ _) c.in-Whole.is c.sequence_at.ensures in
+    let w = subst (Ends [] s _ _) c.in-Ok.is c.sequence_at.ensures in
     omega (arith, w.0.0, w.0.1)
 
 pub loop-i-preserved : goal.loop-i-preserved
 loop-i-preserved c =
     let s = c.args.name.now in
-    let w = subst (Ends [] s _ _) c.in-Whole.is c.sequence_at.ensures in
+    let w = subst (Ends [] s _ _) c.in-Ok.is c.sequence_at.ensures in
     (w.0.1, (c.loop-i.invariant.1.0 ∙ w.1.0, c.loop-i.invariant.1.1 ∙ w.1.1))
 
 pub overflow_add-result : goal.overflow_add-result
 overflow_add-result c =
     let s = c.args.name.now in
-    let w = subst (Ends [] s _ _) c.in-Breaks.is c.sequence_at.ensures in
+    let w = subst (Ends [] s _ _) c.in-Err.is c.sequence_at.ensures in
     omega (arith, c.loop-i.invariant.1.1, w.1, stop-within s)
 
-pub returns-in-Breaks : goal.returns-in-Breaks
-returns-in-Breaks c =
+pub returns-in-Err : goal.returns-in-Err
+returns-in-Err c =
     let s = c.args.name.now in
-    let w = subst (Ends [] s _ _) c.in-Breaks.is c.sequence_at.ensures in
+    let w = subst (Ends [] s _ _) c.in-Err.is c.sequence_at.ensures in
     sym (spelled_wrong s (c.loop-i.invariant.1.0 ∙ w.0) ∙ ap Stops (c.loop-i.invariant.1.1 ∙ w.1))
 
 pub returns : goal.returns

@@ -1,6 +1,6 @@
 -- `numbers::text::two` meets its contract: its second byte follows, or breaks the sequence.
+use Rattle.std.specs.Prelude.{Ok}
 use Rattle.std.proofs.Common.{◌+◌, [], sym, refl, ◌∙◌, arith}
-use Rattle.numbers.specs.declared.text.Sequence.TheVariants.{Whole}
 use Rattle.numbers.proofs.TextRows.{took, broke, whole, follow_within}
 use Rattle.numbers.proofs.text.two.Goals as goal
 
@@ -12,7 +12,7 @@ returns-then-follows c =
     let a = c.args in
     let s = a.name.now in
     let e = sym c.follows.ensures ∙ c.if-follows.true in
-    took a.low2 a.high2 [] s (a.i + 1) (a.i + 2) a.i (Whole 2) e (omega arith)
+    took a.low2 a.high2 [] s (a.i + 1) (a.i + 2) a.i (Ok 2) e (omega arith)
     (whole s (a.i + 2) a.i 2 refl (omega (arith, follow_within a.low2 a.high2 s (a.i + 1) e)) (omega arith))
 
 pub returns : goal.returns

@@ -1,10 +1,8 @@
--- `numbers::text::well_formed` meets its contract, by the law of each answer of `spelled`.
-use Rattle.std.proofs.Common.{sym, ◌∙◌}
-use Rattle.numbers.proofs.TextLaws.{right-text, stops_text}
+-- `numbers::text::well_formed` meets its contract: the name is spelled right exactly if it is text.
+use Rattle.std.specs.Prelude.{is_ok}
+use Rattle.std.proofs.Common.{ap, ◌∙◌}
+use Rattle.numbers.proofs.TextLaws.{ok-text}
 use Rattle.numbers.proofs.text.well_formed.Goals as goal
 
-pub returns-in-Right : goal.returns-in-Right
-returns-in-Right c = sym (right-text _ (sym c.spelled.ensures ∙ c.in-Right.is))
-
-pub returns-in-Stops : goal.returns-in-Stops
-returns-in-Stops c = sym (stops_text _ _ (sym c.spelled.ensures ∙ c.in-Stops.is))
+pub returns : goal.returns
+returns c = c.is_ok.ensures.value ∙ ap is_ok c.spelled.ensures ∙ ok-text _

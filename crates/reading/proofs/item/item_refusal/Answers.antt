@@ -38,13 +38,13 @@ returns-then-input-eq0 c =
       eq-eqb _ _ c.if-input-eq0.true,
     )
 
-pub returns-in-Fine : goal.returns-in-Fine
-returns-in-Fine c =
-    rw (passed (goal.at.returns-in-Fine c).Else-input-eq0, c.in-Is.is, ← c.scan_shape.ensures, c.in-Fine.is)
+pub returns-in-Ok : goal.returns-in-Ok
+returns-in-Ok c =
+    rw (passed (goal.at.returns-in-Ok c).Else-input-eq0, c.in-Some.is, ← c.scan_shape.ensures, c.in-Ok.is)
 
-pub returns-in-Bad : goal.returns-in-Bad
-returns-in-Bad c =
-    rw (passed (goal.at.returns-in-Bad c).Else-input-eq0, c.in-Is.is, ← c.scan_shape.ensures, c.in-Bad.is)
+pub returns-in-Err : goal.returns-in-Err
+returns-in-Err c =
+    rw (passed (goal.at.returns-in-Err c).Else-input-eq0, c.in-Some.is, ← c.scan_shape.ensures, c.in-Err.is)
 
-pub returns-in-Not : goal.returns-in-Not
-returns-in-Not c = rw (passed (goal.at.returns-in-Not c).Else-input-eq0, c.in-Not.is)
+pub returns-in-None : goal.returns-in-None
+returns-in-None c = rw (passed (goal.at.returns-in-None c).Else-input-eq0, c.in-None.is)

@@ -3,9 +3,10 @@
 use Prim.Native.Nat.{◌^◌}
 use native.Mathlib.Omega.{arith}
 use mathlib.Core.Path.{◌≡◌}
+use Rattle.std.proofs.lemmas.Result.{err_from_is_err_and}
 use mathlib.Core.List.{[], ◌∷◌}
 use lib.ListN.{length}
-use Rattle.fields.specs.declared.Leaf.TheVariants.{Fine}
+use Rattle.fields.specs.Leaf.{Fine}
 use Rattle.reading.specs.Scan.{scan}
 use Rattle.fields.specs.Shape.{opening}
 use Rattle.fields.proofs.RunLaws.{under_more}
@@ -41,18 +42,19 @@ scan_counted-requires-clause-input_len_bound c =
 pub scan_counted-requires-clause-at_in_bounds : goal.scan_counted-requires-clause-at_in_bounds
 scan_counted-requires-clause-at_in_bounds c =
     let a = c.args in
-    opening_ends a.lead a.grade a.input.now a.s _ (opened (goal.at.scan_counted-requires-clause-at_in_bounds c).After-scan_two-opening) _ _ c.in-Fine.is
+    opening_ends a.lead a.grade a.input.now a.s _ (opened (goal.at.scan_counted-requires-clause-at_in_bounds c).After-scan_two-opening) _ _ c.in_ok-at.was
 
-pub returns-in-Fine : goal.returns-in-Fine
-returns-in-Fine c =
+pub returns-then-s : goal.returns-then-s
+returns-then-s c =
     let a = c.args in
-    walk_counted (tells a.lead a.grade a.input.now) a.s 0 1 _ (opened (goal.at.returns-in-Fine c).After-scan_two-opening) _ _ c.in-Fine.is
+    walk_counted (tells a.lead a.grade a.input.now) a.s 0 1 _ (opened (goal.at.returns-then-s c).After-scan_two-opening) _ _ c.in_ok-at.was
     c.if-s.true _ c.scan_counted.ensures
 
-pub returns-in-Bad : goal.returns-in-Bad
-returns-in-Bad c =
+pub returns-in_err-at : goal.returns-in_err-at
+returns-in_err-at c =
     let a = c.args in
-    walk_bad (tells a.lead a.grade a.input.now) a.s 0 1 _ (opened (goal.at.returns-in-Bad c).After-scan_two-opening) _ _ c.in-Bad.is
+    let p = err_from_is_err_and c.from_residual.result c.from_residual.ensures.1 in
+    rw (p.1, p.2) (walk_bad (tells a.lead a.grade a.input.now) a.s 0 1 _ (opened (goal.at.returns-in_err-at c).After-scan_two-opening) _ _ c.in_err-at.was)
 
 pub scan_next-requires-clause-input_len_bound : goal.scan_next-requires-clause-input_len_bound
 scan_next-requires-clause-input_len_bound c =

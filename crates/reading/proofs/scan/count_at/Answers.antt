@@ -14,13 +14,13 @@ returns-then-n-eq0 c =
     simp (
       sym c.rest_at.ensures,
       sym c.take_unsigned.ensures,
-      c.in-Value.is,
+      c.in-Ok.is,
       eq-eqb _ _ c.if-n-eq0.true,
     )
 
 pub overflow_add-next : goal.overflow_add-next
 overflow_add-next c =
-    let found = sym c.take_unsigned.ensures ∙ c.in-Value.is in
+    let found = sym c.take_unsigned.ensures ∙ c.in-Ok.is in
     let size = taken-inside u32 c.rest_at.result.now _ _ found in
     omega arith
 
@@ -30,7 +30,7 @@ returns-then-n-lt4 c =
     simp (
       sym c.rest_at.ensures,
       sym c.take_unsigned.ensures,
-      c.in-Value.is,
+      c.in-Ok.is,
       ne_eqb _ _ c.if-n-eq0.false,
       lt-ltb _ _ c.if-n-lt4.true,
     )
@@ -41,20 +41,21 @@ returns-else-n-lt4 c =
     simp (
       sym c.rest_at.ensures,
       sym c.take_unsigned.ensures,
-      c.in-Value.is,
+      c.in-Ok.is,
       ne_eqb _ _ c.if-n-eq0.false,
       le-ltb _ _ c.if-n-lt4.false,
     )
 
-pub returns-in-Cut : goal.returns-in-Cut
+pub returns-in-Err-Cut : goal.returns-in-Err-Cut
 unfolding count_at
-returns-in-Cut c =
+returns-in-Err-Cut c =
     c.cut_short.ensures ∙ simp (
       sym c.rest_at.ensures,
       sym c.take_unsigned.ensures,
-      c.in-Cut.is,
+      c.in-Err-Cut.is,
+      c.in-Err-Cut.field-0-is,
     )
 
-pub returns-in-Bad : goal.returns-in-Bad
+pub returns-in-Err-Bad : goal.returns-in-Err-Bad
 unfolding count_at
-returns-in-Bad c = simp (sym c.rest_at.ensures, sym c.take_unsigned.ensures, c.in-Bad.is)
+returns-in-Err-Bad c = simp (sym c.rest_at.ensures, sym c.take_unsigned.ensures, c.in-Err-Bad.is, c.in-Err-Bad.field-0-is)

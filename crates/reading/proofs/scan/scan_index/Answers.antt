@@ -3,14 +3,14 @@ use mathlib.Core.Path.{sym, ◌∙◌}
 use Rattle.reading.specs.Scan.{scan_index}
 use Rattle.reading.proofs.scan.scan_index.Goals as goal
 
-pub returns-in-Value : goal.returns-in-Value
+pub returns-in-Ok : goal.returns-in-Ok
 unfolding scan_index
-returns-in-Value c = simp (sym c.take_unsigned.ensures, c.in-Value.is)
+returns-in-Ok c = simp (sym c.take_unsigned.ensures, c.in-Ok.is)
 
-pub returns-in-Cut : goal.returns-in-Cut
+pub returns-in-Err-Cut : goal.returns-in-Err-Cut
 unfolding scan_index
-returns-in-Cut c = c.cut_short.ensures ∙ simp (sym c.take_unsigned.ensures, c.in-Cut.is)
+returns-in-Err-Cut c = c.cut_short.ensures ∙ simp (sym c.take_unsigned.ensures, c.in-Err-Cut.is, c.in-Err-Cut.field-0-is)
 
-pub returns-in-Bad : goal.returns-in-Bad
+pub returns-in-Err-Bad : goal.returns-in-Err-Bad
 unfolding scan_index
-returns-in-Bad c = simp (sym c.take_unsigned.ensures, c.in-Bad.is)
+returns-in-Err-Bad c = simp (sym c.take_unsigned.ensures, c.in-Err-Bad.is, c.in-Err-Bad.field-0-is)

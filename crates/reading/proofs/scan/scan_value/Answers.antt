@@ -22,38 +22,40 @@ returns-then-b-lt128 c =
       lt-ltb _ _ c.if-b-lt128.true,
     )
 
-pub returns-in-Value : goal.returns-in-Value
+pub returns-in-Ok : goal.returns-in-Ok
 unfolding scan_value
-returns-in-Value c =
+returns-in-Ok c =
     simp (
       lt-leb _ _ c.if-bs-le0.false,
       sym c.byte_at-b.ensures,
       le-ltb _ _ c.if-b-lt64.false,
       le-ltb _ _ c.if-b-lt128.false,
       sym c.take_signed.ensures,
-      c.in-Value.is,
+      c.in-Ok.is,
     )
 
-pub returns-in-Cut : goal.returns-in-Cut
+pub returns-in-Err-Cut : goal.returns-in-Err-Cut
 unfolding scan_value
-returns-in-Cut c =
-    c.cut_short-in-Cut.ensures ∙ simp (
+returns-in-Err-Cut c =
+    c.cut_short-in-Err-Cut.ensures ∙ simp (
       lt-leb _ _ c.if-bs-le0.false,
       sym c.byte_at-b.ensures,
       le-ltb _ _ c.if-b-lt64.false,
       le-ltb _ _ c.if-b-lt128.false,
       sym c.take_signed.ensures,
-      c.in-Cut.is,
+      c.in-Err-Cut.is,
+      c.in-Err-Cut.field-0-is,
     )
 
-pub returns-in-Bad : goal.returns-in-Bad
+pub returns-in-Err-Bad : goal.returns-in-Err-Bad
 unfolding scan_value
-returns-in-Bad c =
+returns-in-Err-Bad c =
     simp (
       lt-leb _ _ c.if-bs-le0.false,
       sym c.byte_at-b.ensures,
       le-ltb _ _ c.if-b-lt64.false,
       le-ltb _ _ c.if-b-lt128.false,
       sym c.take_signed.ensures,
-      c.in-Bad.is,
+      c.in-Err-Bad.is,
+      c.in-Err-Bad.field-0-is,
     )

@@ -3,6 +3,7 @@ use Prim.Native.Nat.{◌^◌}
 use native.Mathlib.Omega.{arith}
 use mathlib.Core.Path.{sym}
 use Rattle.reading.proofs.ScanLaws.{behind, name-near}
+use Rattle.std.proofs.Common.{rules}
 use Rattle.reading.proofs.scan.string_at.Goals as goal
 
 pub past_by-requires-clause-inside : goal.past_by-requires-clause-inside
@@ -10,20 +11,14 @@ past_by-requires-clause-inside c =
     let a = c.args in
     rw (c.scan_name.ensures, c.rest_at.ensures) (behind (2 ^ 31) a.bs.now a.at (omega arith) (name-near _))
 
-pub returns-in-Fine : goal.returns-in-Fine
-returns-in-Fine c =
+pub returns : goal.returns
+returns c =
     simp (
       sym c.rest_at.ensures,
       sym c.scan_name.ensures,
       sym c.past_by.ensures,
-      c.in-Fine.is,
+      c.in_ok-name.was,
     )
 
-pub returns-in-Bad : goal.returns-in-Bad
-returns-in-Bad c =
-    simp (
-      sym c.rest_at.ensures,
-      sym c.scan_name.ensures,
-      sym c.past_by.ensures,
-      c.in-Bad.is,
-    )
+pub returns-in_err-name : goal.returns-in_err-name
+returns-in_err-name c = search rules

@@ -6,11 +6,11 @@ use Rattle.sections.proofs.Section.after.Goals as goal
 
 pub overflow_add-grown : goal.overflow_add-grown
 overflow_add-grown c =
-    let fits = subst (Bounded c.args.self) c.in-Size.is c.requires in
+    let fits = subst (Bounded c.args.self) c.in-Ok.is c.requires in
     omega arith
 
-pub returns-in-Size : goal.returns-in-Size
-returns-in-Size c = simp c.in-Size.is
+pub returns-in-Ok : goal.returns-in-Ok
+returns-in-Ok c = simp c.in-Ok.is
 
-pub returns-in-Refused : goal.returns-in-Refused
-returns-in-Refused c = simp c.in-Refused.is c.refuse.ensures
+pub returns-in-Err : goal.returns-in-Err
+returns-in-Err c = simp c.in-Err.is c.refuse.ensures

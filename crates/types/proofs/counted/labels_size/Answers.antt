@@ -1,33 +1,22 @@
 -- `labels_size` meets its contract: the loop's invariant is `Going` (what is still to be seen makes the whole) and its numbers.
 use native.Mathlib.Omega.{arith}
-use mathlib.Core.List.{[], ◌∷◌}
-use Rattle.fields.specs.declared.Field.TheVariants as field
+use mathlib.Core.Path.{sym, ◌∙◌}
 use Rattle.writing.proofs.ElementLaws.{name_at-small}
-use Rattle.writing.proofs.GroupLaws.{going_start, going_end}
-use Rattle.types.specs.Table.{label}
+use Rattle.writing.proofs.GroupLaws.{going_end}
 use Rattle.types.proofs.CountedLaws.{label_next}
 use Rattle.types.proofs.counted.labels_size.Goals as goal
-
-pub loop-due-init : goal.loop-due-init
-loop-due-init c =
-    let args = c.args in (
-      going_start args.pool.now (field.Name ∷ field.Nothing ∷ []) (label args.pool.now) 65541 args.row.now args.from
-          args.n args.base,
-      (omega arith, omega arith),
-    )
 
 pub overflow_add-made : goal.overflow_add-made
 overflow_add-made c =
     let args = c.args in
-    omega (arith, name_at-small args.pool.now args.row.now c.loop-due.at c.requires.pool_len_bound.0 c.name_size-one.ensures)
+    omega (arith, name_at-small args.pool.now args.row.now c.loop.at c.requires.pool_len_bound.0 (sym c.in_ok-made.was ∙ c.name_size.ensures))
 
-pub loop-due-preserved : goal.loop-due-preserved
-loop-due-preserved c =
-    let k = label_next c.loop-due.invariant.0 c.loop-due-test.true c.requires.pool_len_bound.0 c.name_size-one.ensures (omega arith) in
-    (k, (omega arith, k.small))
+pub loop-preserved : goal.loop-preserved
+loop-preserved c =
+    let args = c.args in
+    let one = sym c.in_ok-made.was ∙ c.name_size.ensures in
+    let few = name_at-small args.pool.now args.row.now c.loop.at c.requires.pool_len_bound.0 one in
+    (label_next c.loop.invariant.0 (omega arith) c.requires.pool_len_bound.0 one, (omega arith, omega arith))
 
 pub returns : goal.returns
-returns c = λ h. going_end c.loop-due.due c.loop-due.invariant.0 c.loop-due-test.false
-
-pub returns-then-one-eq0 : goal.returns-then-one-eq0
-returns-then-one-eq0 c = λ h. absurd (omega arith)
+returns c = going_end _ c.loop.invariant.0 (omega arith)

@@ -1,53 +1,41 @@
 -- `put_cases` meets its contract: the loop's invariant is `Putting`: what is still to be put, put here, leaves what the whole leaves.
 use native.Mathlib.Omega.{arith}
 use mathlib.Core.Path.{refl}
-use mathlib.Core.List.{[], ◌∷◌}
-use Rattle.fields.specs.declared.Field.TheVariants as field
 use Rattle.fields.specs.Words.{wide}
 use Rattle.fields.specs.Shape.{widths}
-use Rattle.writing.proofs.GroupLaws.{putting_start, putting_next, putting_end}
-use Rattle.types.specs.Table.{case}
-use Rattle.types.proofs.CountedLaws.{case_room, case_byte, case_put}
+use Rattle.writing.proofs.GroupLaws.{putting_next, putting_end}
+use Rattle.types.proofs.CountedLaws.{put_one, case_room, case_byte, case_put}
 use Rattle.types.proofs.counted.put_cases.Goals as goal
-
-pub loop-due-init : goal.loop-due-init
-loop-due-init c =
-    let args = c.args in
-    let pool = args.pool.now in (
-      putting_start pool (field.Name ∷ field.OptionalThenZero ∷ []) (case pool) args.row.now args.from args.n args.out.now
-          args.base c.requires.rights,
-      refl,
-    )
 
 pub overflow_add-to : goal.overflow_add-to
 overflow_add-to c =
-    omega (arith, (case_room c.loop-due.invariant.0 c.loop-due-test.true c.requires.row_in_bounds c.put_name.ensures c.stored_size-to.ensures).0)
+    omega (arith, (case_room c.loop.invariant.0 (omega arith) c.requires.row_in_bounds c.put_name.ensures c.stored_size-to.ensures).0)
 
 pub put_optional-to-requires : goal.put_optional-to-requires
 put_optional-to-requires c =
-    (case_room c.loop-due.invariant.0 c.loop-due-test.true c.requires.row_in_bounds c.put_name.ensures c.stored_size-to.ensures).1
+    (case_room c.loop.invariant.0 (omega arith) c.requires.row_in_bounds c.put_name.ensures c.stored_size-to.ensures).1
 
 pub bounds-out-to : goal.bounds-out-to
 bounds-out-to c =
-    let i = case_byte c.loop-due.invariant.0 c.loop-due-test.true c.requires.row_in_bounds c.put_name.ensures c.stored_size-to.ensures c.put_optional-to.ensures in
+    let i = case_byte c.loop.invariant.0 (omega arith) c.requires.row_in_bounds c.put_name.ensures c.stored_size-to.ensures c.put_optional-to.ensures in
     omega arith
 
-pub overflow_add-to-in-loop-due : goal.overflow_add-to-in-loop-due
-overflow_add-to-in-loop-due c =
+pub overflow_add-to-in-loop : goal.overflow_add-to-in-loop
+overflow_add-to-in-loop c =
     omega (
       arith,
-      case_byte c.loop-due.invariant.0 c.loop-due-test.true c.requires.row_in_bounds c.put_name.ensures c.stored_size-to.ensures c.put_optional-to.ensures,
+      case_byte c.loop.invariant.0 (omega arith) c.requires.row_in_bounds c.put_name.ensures c.stored_size-to.ensures c.put_optional-to.ensures,
     )
 
-pub loop-due-preserved : goal.loop-due-preserved
+pub loop-preserved : goal.loop-preserved
 unfolding widths wide
-loop-due-preserved c =
-    let w = case_put c.loop-due.invariant.0 c.loop-due-test.true c.requires.row_in_bounds c.put_name.ensures c.stored_size-to.ensures c.put_optional-to.ensures in
-    (putting_next c.loop-due.invariant.0 c.loop-due-test.true w refl, omega arith)
+loop-preserved c =
+    let w = case_put c.loop.invariant.0 (omega arith) c.requires.row_in_bounds c.put_name.ensures c.stored_size-to.ensures c.put_optional-to.ensures in
+    (put_one c.loop.counter (putting_next c.loop.invariant.0 (omega arith) w refl), omega arith)
 
 pub shape_of-out : goal.shape_of-out
-shape_of-out c = c.loop-due.invariant.0.same
+shape_of-out c = c.loop.invariant.0.same
 
 pub returns : goal.returns
 unfolding widths wide
-returns c = (putting_end c.loop-due.due c.loop-due.invariant.0 c.loop-due-test.false).content
+returns c = (putting_end _ c.loop.invariant.0 (omega arith)).content

@@ -1,5 +1,5 @@
 -- `put_labels` meets its contract: the loop's invariant is `Putting`: what is still to be put, put here, leaves what the whole leaves.
-use Prim.Native.Nat.{◌+◌, ◌*◌}
+use Prim.Native.Nat.{◌+◌, ◌-◌, ◌*◌}
 use mathlib.Core.Path.{◌≡◌}
 use mathlib.Core.List.{[], ◌∷◌}
 use Rattle.fields.specs.declared.Field.TheVariants as field
@@ -7,8 +7,5 @@ use Rattle.writing.proofs.GroupLaws.{Putting}
 use Rattle.types.specs.Table.{label}
 use Rattle.types.proofs.counted.put_labels.Given as goal
 
-abbrev pub invariant-loop-due : goal.invariant-loop-due
-invariant-loop-due l = Putting l.pool (field.Name ∷ field.Nothing ∷ []) (label l.pool) l.row l.from l.n l.initial.out l.base l.due l.at l.to l.out × (l.at + l.due * 2 ≡ l.from + l.n * 2)
-
-abbrev pub decreases-loop-due : goal.decreases-loop-due
-decreases-loop-due l = l.due
+abbrev pub invariant-loop : goal.invariant-loop
+invariant-loop l = Putting l.pool (field.Name ∷ field.Nothing ∷ []) (label l.pool) l.row l.from l.n l.initial.out l.base (l.n - l.counter) l.at l.to l.out × (l.at ≡ l.from + l.counter * 2)

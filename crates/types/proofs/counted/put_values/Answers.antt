@@ -1,5 +1,6 @@
 -- `put_values` meets its contract: the loop's invariant is `Putting`, by indices as nothing is needed of the words.
 use native.Mathlib.Omega.{arith}
+use native.Mathlib.Numerals.{unary_clauses}
 use mathlib.Core.Path.{refl}
 use mathlib.Core.List.{[], ◌∷◌}
 use lib.ListN.{drop}
@@ -8,31 +9,30 @@ use Rattle.fields.specs.Words.{word, wide}
 use Rattle.writing.specs.Binary.{valtype}
 use Rattle.fields.specs.Shape.{widths}
 use Rattle.writing.proofs.GroupLaws.{putting_start, putting_next, putting_end}
-use Rattle.types.proofs.CountedLaws.{indices_right, value_put}
+use Rattle.types.proofs.CountedLaws.{put_one, indices_right, value_put}
 use Rattle.types.proofs.counted.put_values.Goals as goal
 
-pub loop-due-init : goal.loop-due-init
-loop-due-init c =
+pub loop-init : goal.loop-init
+loop-init c =
     let args = c.args in
     let right = indices_right args.n (drop args.from args.row.now) in (
-      putting_start [] (field.Index ∷ field.Index ∷ []) (λ ws. valtype (word ws 0) (word ws 1)) args.row.now args.from args.n
-          args.out.now args.base right,
-      refl,
+      simp unary_clauses (putting_start [] (field.Index ∷ field.Index ∷ []) (λ ws. valtype (word ws 0) (word ws 1)) args.row.now args.from args.n args.out.now args.base right),
+      omega arith,
     )
 
 pub overflow_add-to : goal.overflow_add-to
 overflow_add-to c =
-    omega (arith, (value_put c.loop-due.invariant.0 c.loop-due-test.true c.requires.row_in_bounds c.put_value.ensures c.stored_size-to.ensures).1)
+    omega (arith, (value_put c.loop.invariant.0 (omega arith) c.requires.row_in_bounds c.put_value.ensures c.stored_size-to.ensures).1)
 
-pub loop-due-preserved : goal.loop-due-preserved
+pub loop-preserved : goal.loop-preserved
 unfolding widths wide
-loop-due-preserved c =
-    let w = (value_put c.loop-due.invariant.0 c.loop-due-test.true c.requires.row_in_bounds c.put_value.ensures c.stored_size-to.ensures).0 in
-    (putting_next c.loop-due.invariant.0 c.loop-due-test.true w refl, omega arith)
+loop-preserved c =
+    let w = (value_put c.loop.invariant.0 (omega arith) c.requires.row_in_bounds c.put_value.ensures c.stored_size-to.ensures).0 in
+    (put_one c.loop.counter (putting_next c.loop.invariant.0 (omega arith) w refl), omega arith)
 
 pub shape_of-out : goal.shape_of-out
-shape_of-out c = c.loop-due.invariant.0.same
+shape_of-out c = c.loop.invariant.0.same
 
 pub returns : goal.returns
 unfolding widths wide
-returns c = (putting_end c.loop-due.due c.loop-due.invariant.0 c.loop-due-test.false).content
+returns c = (putting_end _ c.loop.invariant.0 (omega arith)).content

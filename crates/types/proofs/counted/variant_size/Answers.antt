@@ -2,6 +2,7 @@
 use native.Mathlib.Omega.{arith}
 use Prim.Native.Nat.{ℕ, ◌+◌}
 use mathlib.Core.Path.{refl, ap}
+use Rattle.std.proofs.lemmas.Option.{IfSome_then}
 use Rattle.numbers.proofs.LebLaws.{size_bounds}
 use Rattle.fields.specs.declared.Field.TheVariants as field
 use Rattle.fields.specs.Words.{word, wide}
@@ -10,43 +11,18 @@ use Rattle.writing.proofs.RowLaws.{counted_known}
 use Rattle.writing.proofs.GroupLaws.{case_element}
 use Rattle.types.proofs.counted.variant_size.Goals as goal
 
-pub overflow_cast-n : goal.overflow_cast-n
-overflow_cast-n c = omega (arith, c.type_inv.row 1)
-
-pub overflow_mul-n : goal.overflow_mul-n
-overflow_mul-n c = omega (arith, c.type_inv.row 1)
-
-pub overflow_add-n : goal.overflow_add-n
-overflow_add-n c = omega (arith, c.type_inv.row 1)
-
 pub overflow_add-unsigned_size : goal.overflow_add-unsigned_size
-overflow_add-unsigned_size c =
-    let args = c.args in
-    omega (arith, c.unsigned_size.ensures, size_bounds 128 (word args.row.now 1))
-
-pub cases_size-requires-clause-pool_len_bound : goal.cases_size-requires-clause-pool_len_bound
-cases_size-requires-clause-pool_len_bound c =
-    let args = c.args in
-    let few = size_bounds 128 (word args.row.now 1) in
-    c.requires
+overflow_add-unsigned_size c = omega (arith, c.unsigned_size.ensures, size_bounds 128 (word c.args.row.now 1))
 
 pub cases_size-requires-clause-n_in_bounds : goal.cases_size-requires-clause-n_in_bounds
 cases_size-requires-clause-n_in_bounds c =
-    let args = c.args in
-    let few = size_bounds 128 (word args.row.now 1) in
-    (omega (arith, c.if-row-n.true), omega (arith, c.unsigned_size.ensures, few))
-
-pub returns-then-row-n : goal.returns-then-row-n
-unfolding widths wide
-returns-then-row-n c =
-    let args = c.args in
-    let row = args.row.now in
-    λ h. counted_known 0x71 field.Name field.OptionalThenZero refl row args.pool.now (case_element args.pool.now)
-    c.requires.0 c.requires.1 c.if-row-n.true
-    (ap (λ (m : ℕ). 1 + m) c.unsigned_size.ensures) (c.cases_size.ensures h)
-
-pub returns-then-row-lt2 : goal.returns-then-row-lt2
-returns-then-row-lt2 c = λ h. absurd (omega arith)
+    let few = size_bounds 128 (word c.args.row.now 1) in
+    (omega (arith, c.if-row-n.false), omega (arith, c.unsigned_size.ensures, few))
 
 pub returns : goal.returns
-returns c = λ h. absurd (omega arith)
+unfolding widths wide
+returns c =
+    let row = c.args.row.now in
+    IfSome_then c.cases_size.result c.cases_size.ensures
+    (λ r g. counted_known 0x71 field.Name field.OptionalThenZero refl row c.args.pool.now (case_element c.args.pool.now) c.requires.0 c.requires.1 c.if-row-n.false
+    (ap (λ (m : ℕ). 1 + m) c.unsigned_size.ensures) g)

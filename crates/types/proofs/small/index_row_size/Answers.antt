@@ -8,8 +8,5 @@ use Rattle.types.proofs.small.index_row_size.Goals as goal
 pub overflow_add-result : goal.overflow_add-result
 overflow_add-result c = omega (arith, c.unsigned_size.ensures, size_bounds 128 (word c.args.row.now 1))
 
-pub returns-then-row-eq2 : goal.returns-then-row-eq2
-returns-then-row-eq2 c = λ h. index_row_lem c.args.row.now c.unsigned_size.ensures c.if-row-eq2.true
-
 pub returns : goal.returns
-returns = λ c h. absurd (omega arith)
+returns c = index_row_lem c.args.row.now c.unsigned_size.ensures c.if-row-ne2.false

@@ -1,10 +1,11 @@
 -- `measure_head` meets its contract: what straight code sees has its size, and the rest is measured by the shape.
 use mathlib.Core.Path.{sym, ap, ◌∙◌}
 use Rattle.writing.specs.Write.{measured}
+use Rattle.types.proofs.SmallLaws.{found}
 use Rattle.types.proofs.steps.measure_head.Goals as goal
 
-pub returns-then-size-gt0 : goal.returns-then-size-gt0
-returns-then-size-gt0 c = sym (c.head_size-size.ensures c.if-size-gt0.true)
+pub returns-in-Some : goal.returns-in-Some
+returns-in-Some c = sym (found _ c.in-Some.is c.head_size.ensures)
 
 pub returns : goal.returns
 returns c =

@@ -2,11 +2,13 @@
 use mathlib.Core.Path.{sym, ap, ◌∙◌}
 use mathlib.Core.List.{[], ◌∷◌}
 use Rattle.writing.specs.Write.{measured}
+use Rattle.types.specs.inside.Optional.{OptionalKnown}
+use Rattle.types.proofs.SmallLaws.{found}
 use Rattle.types.proofs.StepLaws.{result_measured}
 use Rattle.types.proofs.steps.measure_result.Goals as goal
 
-pub returns-then-size-gt0 : goal.returns-then-size-gt0
-returns-then-size-gt0 c = sym (result_measured (c.optional_size-size.ensures.optional_known c.if-size-gt0.true))
+pub returns-in-Some : goal.returns-in-Some
+returns-in-Some c = sym (result_measured (found (OptionalKnown 2 c.args.tag c.args.x) c.in-Some.is c.optional_size.ensures.optional_known))
 
 pub returns : goal.returns
 returns c =

@@ -1,28 +1,25 @@
 -- `write_small` meets its contract: in each arm a size that was found, room for it, and the bytes of the kind's shape.
 use mathlib.Core.Path.{refl, sym, ◌∙◌}
-use Rattle.writing.proofs.RowLaws.{tried_none}
 use Rattle.writing.proofs.KindLaws.{put_as, sized-fits}
+use Rattle.types.proofs.SmallLaws.{found}
 use Rattle.types.proofs.KindLaws.{tried_as, sized-tried}
 use Rattle.types.proofs.KindLaws.{kind_0, kind_3, kind_4, kind_5, kind_9, kind_10, kind_11, kind_12, kind_13, kind_14, kind_16}
 use Rattle.types.proofs.KindLaws.{fixed_fits, index_fits, optional_fits, optionals_fits, primitive_fits, resource_fits, value_fits, values_fits}
 use Rattle.types.proofs.KindLaws.{fixed_bytes, index_bytes, optional_bytes, optionals_bytes, primitive_bytes, resource_bytes, value_bytes, values_bytes}
 use Rattle.types.proofs.straight.write_small.Goals as goal
 
-pub returns-then-pool-gt-POOL_BYTES : goal.returns-then-pool-gt-POOL_BYTES
-returns-then-pool-gt-POOL_BYTES c = tried_none _ _ _ _ _
-
 pub put_primitive-requires : goal.put_primitive-requires
 put_primitive-requires c =
     let a = c.args in
     primitive_fits refl
-    (sized-fits (λ h. c.primitive_size-size.ensures h a.pool.now c.if-pool-gt-POOL_BYTES.false)
+    (sized-fits (λ h. found _ c.in_ok-size-in-0.was c.primitive_size.ensures a.pool.now c.if-pool-gt-POOL_BYTES.false)
     (sym c.fits.ensures ∙ c.if-fits.true))
 
 pub returns-then-fits : goal.returns-then-fits
 returns-then-fits c =
     let a = c.args in
     tried_as kind_0 c.kind_of.ensures c.in-0.is
-    (sized-tried (λ h. c.primitive_size-size.ensures h a.pool.now c.if-pool-gt-POOL_BYTES.false)
+    (sized-tried (found _ c.in_ok-size-in-0.was c.primitive_size.ensures a.pool.now c.if-pool-gt-POOL_BYTES.false)
     (sym c.fits.ensures ∙ c.if-fits.true)
     (λ f. put_as a.out.now a.at (primitive_bytes refl f) c.put_primitive.ensures))
 
@@ -30,21 +27,21 @@ pub put_value_row-requires-clause-row_len : goal.put_value_row-requires-clause-r
 put_value_row-requires-clause-row_len c =
     let a = c.args in
     (value_fits refl
-    (sized-fits (λ h. c.value_row_size-size.ensures h 0x70 a.pool.now c.if-pool-gt-POOL_BYTES.false)
+    (sized-fits (λ h. found _ c.in_ok-size-in-3.was c.value_row_size.ensures 0x70 a.pool.now c.if-pool-gt-POOL_BYTES.false)
     (sym c.fits-in-3.ensures ∙ c.if-fits-2.true))).0
 
 pub put_value_row-requires-clause-row_in_bounds : goal.put_value_row-requires-clause-row_in_bounds
 put_value_row-requires-clause-row_in_bounds c =
     let a = c.args in
     (value_fits refl
-    (sized-fits (λ h. c.value_row_size-size.ensures h 0x70 a.pool.now c.if-pool-gt-POOL_BYTES.false)
+    (sized-fits (λ h. found _ c.in_ok-size-in-3.was c.value_row_size.ensures 0x70 a.pool.now c.if-pool-gt-POOL_BYTES.false)
     (sym c.fits-in-3.ensures ∙ c.if-fits-2.true))).1
 
 pub returns-then-fits-2 : goal.returns-then-fits-2
 returns-then-fits-2 c =
     let a = c.args in
     tried_as kind_3 c.kind_of.ensures c.in-3.is
-    (sized-tried (λ h. c.value_row_size-size.ensures h 0x70 a.pool.now c.if-pool-gt-POOL_BYTES.false)
+    (sized-tried (found _ c.in_ok-size-in-3.was c.value_row_size.ensures 0x70 a.pool.now c.if-pool-gt-POOL_BYTES.false)
     (sym c.fits-in-3.ensures ∙ c.if-fits-2.true)
     (λ f. put_as a.out.now a.at (value_bytes refl f) c.put_value_row.ensures))
 
@@ -52,21 +49,21 @@ pub put_values_row-requires-clause-row_len : goal.put_values_row-requires-clause
 put_values_row-requires-clause-row_len c =
     let a = c.args in
     (values_fits refl
-    (sized-fits (λ h. c.values_row_size-size.ensures h 0x63 a.pool.now c.if-pool-gt-POOL_BYTES.false)
+    (sized-fits (λ h. found _ c.in_ok-size-in-4.was c.values_row_size.ensures 0x63 a.pool.now c.if-pool-gt-POOL_BYTES.false)
     (sym c.fits-in-4.ensures ∙ c.if-fits-3.true))).0
 
 pub put_values_row-requires-clause-row_in_bounds : goal.put_values_row-requires-clause-row_in_bounds
 put_values_row-requires-clause-row_in_bounds c =
     let a = c.args in
     (values_fits refl
-    (sized-fits (λ h. c.values_row_size-size.ensures h 0x63 a.pool.now c.if-pool-gt-POOL_BYTES.false)
+    (sized-fits (λ h. found _ c.in_ok-size-in-4.was c.values_row_size.ensures 0x63 a.pool.now c.if-pool-gt-POOL_BYTES.false)
     (sym c.fits-in-4.ensures ∙ c.if-fits-3.true))).1
 
 pub returns-then-fits-3 : goal.returns-then-fits-3
 returns-then-fits-3 c =
     let a = c.args in
     tried_as kind_4 c.kind_of.ensures c.in-4.is
-    (sized-tried (λ h. c.values_row_size-size.ensures h 0x63 a.pool.now c.if-pool-gt-POOL_BYTES.false)
+    (sized-tried (found _ c.in_ok-size-in-4.was c.values_row_size.ensures 0x63 a.pool.now c.if-pool-gt-POOL_BYTES.false)
     (sym c.fits-in-4.ensures ∙ c.if-fits-3.true)
     (λ f. put_as a.out.now a.at (values_bytes refl f) c.put_values_row.ensures))
 
@@ -74,21 +71,21 @@ pub put_fixed_row-requires-clause-row_len : goal.put_fixed_row-requires-clause-r
 put_fixed_row-requires-clause-row_len c =
     let a = c.args in
     (fixed_fits refl
-    (sized-fits (λ h. c.fixed_row_size-size.ensures h 0x67 a.pool.now c.if-pool-gt-POOL_BYTES.false)
+    (sized-fits (λ h. found _ c.in_ok-size-in-5.was c.fixed_row_size.ensures 0x67 a.pool.now c.if-pool-gt-POOL_BYTES.false)
     (sym c.fits-in-5.ensures ∙ c.if-fits-4.true))).0
 
 pub put_fixed_row-requires-clause-row_in_bounds : goal.put_fixed_row-requires-clause-row_in_bounds
 put_fixed_row-requires-clause-row_in_bounds c =
     let a = c.args in
     (fixed_fits refl
-    (sized-fits (λ h. c.fixed_row_size-size.ensures h 0x67 a.pool.now c.if-pool-gt-POOL_BYTES.false)
+    (sized-fits (λ h. found _ c.in_ok-size-in-5.was c.fixed_row_size.ensures 0x67 a.pool.now c.if-pool-gt-POOL_BYTES.false)
     (sym c.fits-in-5.ensures ∙ c.if-fits-4.true))).1
 
 pub returns-then-fits-4 : goal.returns-then-fits-4
 returns-then-fits-4 c =
     let a = c.args in
     tried_as kind_5 c.kind_of.ensures c.in-5.is
-    (sized-tried (λ h. c.fixed_row_size-size.ensures h 0x67 a.pool.now c.if-pool-gt-POOL_BYTES.false)
+    (sized-tried (found _ c.in_ok-size-in-5.was c.fixed_row_size.ensures 0x67 a.pool.now c.if-pool-gt-POOL_BYTES.false)
     (sym c.fits-in-5.ensures ∙ c.if-fits-4.true)
     (λ f. put_as a.out.now a.at (fixed_bytes refl f) c.put_fixed_row.ensures))
 
@@ -96,7 +93,7 @@ pub put_value_row-requires-then-fits-5 : goal.put_value_row-requires-then-fits-5
 put_value_row-requires-then-fits-5 c =
     let a = c.args in
     let h = value_fits refl
-    (sized-fits (λ h. c.value_row_size-size-in-9.ensures h 0x6b a.pool.now c.if-pool-gt-POOL_BYTES.false)
+    (sized-fits (λ h. found _ c.in_ok-size-in-9.was c.value_row_size-in-9.ensures 0x6b a.pool.now c.if-pool-gt-POOL_BYTES.false)
     (sym c.fits-in-9.ensures ∙ c.if-fits-5.true)) in
     record { row_len = h.0; row_in_bounds = h.1 }
 
@@ -104,7 +101,7 @@ pub returns-then-fits-5 : goal.returns-then-fits-5
 returns-then-fits-5 c =
     let a = c.args in
     tried_as kind_9 c.kind_of.ensures c.in-9.is
-    (sized-tried (λ h. c.value_row_size-size-in-9.ensures h 0x6b a.pool.now c.if-pool-gt-POOL_BYTES.false)
+    (sized-tried (found _ c.in_ok-size-in-9.was c.value_row_size-in-9.ensures 0x6b a.pool.now c.if-pool-gt-POOL_BYTES.false)
     (sym c.fits-in-9.ensures ∙ c.if-fits-5.true)
     (λ f. put_as a.out.now a.at (value_bytes refl f) c.put_value_row-then-fits-5.ensures))
 
@@ -112,21 +109,21 @@ pub put_optionals_row-requires-clause-row_len : goal.put_optionals_row-requires-
 put_optionals_row-requires-clause-row_len c =
     let a = c.args in
     (optionals_fits refl
-    (sized-fits (λ h. c.optionals_row_size-size.ensures h 0x6a a.pool.now c.if-pool-gt-POOL_BYTES.false)
+    (sized-fits (λ h. found _ c.in_ok-size-in-10.was c.optionals_row_size.ensures 0x6a a.pool.now c.if-pool-gt-POOL_BYTES.false)
     (sym c.fits-in-10.ensures ∙ c.if-fits-6.true))).0
 
 pub put_optionals_row-requires-clause-row_in_bounds : goal.put_optionals_row-requires-clause-row_in_bounds
 put_optionals_row-requires-clause-row_in_bounds c =
     let a = c.args in
     (optionals_fits refl
-    (sized-fits (λ h. c.optionals_row_size-size.ensures h 0x6a a.pool.now c.if-pool-gt-POOL_BYTES.false)
+    (sized-fits (λ h. found _ c.in_ok-size-in-10.was c.optionals_row_size.ensures 0x6a a.pool.now c.if-pool-gt-POOL_BYTES.false)
     (sym c.fits-in-10.ensures ∙ c.if-fits-6.true))).1
 
 pub returns-then-fits-6 : goal.returns-then-fits-6
 returns-then-fits-6 c =
     let a = c.args in
     tried_as kind_10 c.kind_of.ensures c.in-10.is
-    (sized-tried (λ h. c.optionals_row_size-size.ensures h 0x6a a.pool.now c.if-pool-gt-POOL_BYTES.false)
+    (sized-tried (found _ c.in_ok-size-in-10.was c.optionals_row_size.ensures 0x6a a.pool.now c.if-pool-gt-POOL_BYTES.false)
     (sym c.fits-in-10.ensures ∙ c.if-fits-6.true)
     (λ f. put_as a.out.now a.at (optionals_bytes refl f) c.put_optionals_row.ensures))
 
@@ -134,21 +131,21 @@ pub put_index_row-requires-clause-row_len : goal.put_index_row-requires-clause-r
 put_index_row-requires-clause-row_len c =
     let a = c.args in
     (index_fits refl
-    (sized-fits (λ h. c.index_row_size-size.ensures h 0x69 a.pool.now c.if-pool-gt-POOL_BYTES.false)
+    (sized-fits (λ h. found _ c.in_ok-size-in-11.was c.index_row_size.ensures 0x69 a.pool.now c.if-pool-gt-POOL_BYTES.false)
     (sym c.fits-in-11.ensures ∙ c.if-fits-7.true))).0
 
 pub put_index_row-requires-clause-row_in_bounds : goal.put_index_row-requires-clause-row_in_bounds
 put_index_row-requires-clause-row_in_bounds c =
     let a = c.args in
     (index_fits refl
-    (sized-fits (λ h. c.index_row_size-size.ensures h 0x69 a.pool.now c.if-pool-gt-POOL_BYTES.false)
+    (sized-fits (λ h. found _ c.in_ok-size-in-11.was c.index_row_size.ensures 0x69 a.pool.now c.if-pool-gt-POOL_BYTES.false)
     (sym c.fits-in-11.ensures ∙ c.if-fits-7.true))).1
 
 pub returns-then-fits-7 : goal.returns-then-fits-7
 returns-then-fits-7 c =
     let a = c.args in
     tried_as kind_11 c.kind_of.ensures c.in-11.is
-    (sized-tried (λ h. c.index_row_size-size.ensures h 0x69 a.pool.now c.if-pool-gt-POOL_BYTES.false)
+    (sized-tried (found _ c.in_ok-size-in-11.was c.index_row_size.ensures 0x69 a.pool.now c.if-pool-gt-POOL_BYTES.false)
     (sym c.fits-in-11.ensures ∙ c.if-fits-7.true)
     (λ f. put_as a.out.now a.at (index_bytes refl f) c.put_index_row.ensures))
 
@@ -156,7 +153,7 @@ pub put_index_row-requires-then-fits-8 : goal.put_index_row-requires-then-fits-8
 put_index_row-requires-then-fits-8 c =
     let a = c.args in
     let h = index_fits refl
-    (sized-fits (λ h. c.index_row_size-size-in-12.ensures h 0x68 a.pool.now c.if-pool-gt-POOL_BYTES.false)
+    (sized-fits (λ h. found _ c.in_ok-size-in-12.was c.index_row_size-in-12.ensures 0x68 a.pool.now c.if-pool-gt-POOL_BYTES.false)
     (sym c.fits-in-12.ensures ∙ c.if-fits-8.true)) in
     record { row_len = h.0; row_in_bounds = h.1 }
 
@@ -164,7 +161,7 @@ pub returns-then-fits-8 : goal.returns-then-fits-8
 returns-then-fits-8 c =
     let a = c.args in
     tried_as kind_12 c.kind_of.ensures c.in-12.is
-    (sized-tried (λ h. c.index_row_size-size-in-12.ensures h 0x68 a.pool.now c.if-pool-gt-POOL_BYTES.false)
+    (sized-tried (found _ c.in_ok-size-in-12.was c.index_row_size-in-12.ensures 0x68 a.pool.now c.if-pool-gt-POOL_BYTES.false)
     (sym c.fits-in-12.ensures ∙ c.if-fits-8.true)
     (λ f. put_as a.out.now a.at (index_bytes refl f) c.put_index_row-then-fits-8.ensures))
 
@@ -172,21 +169,21 @@ pub put_optional_row-requires-clause-row_len : goal.put_optional_row-requires-cl
 put_optional_row-requires-clause-row_len c =
     let a = c.args in
     (optional_fits refl
-    (sized-fits (λ h. c.optional_row_size-size.ensures h 0x65 a.pool.now c.if-pool-gt-POOL_BYTES.false)
+    (sized-fits (λ h. found _ c.in_ok-size-in-13.was c.optional_row_size.ensures 0x65 a.pool.now c.if-pool-gt-POOL_BYTES.false)
     (sym c.fits-in-13.ensures ∙ c.if-fits-9.true))).0
 
 pub put_optional_row-requires-clause-row_in_bounds : goal.put_optional_row-requires-clause-row_in_bounds
 put_optional_row-requires-clause-row_in_bounds c =
     let a = c.args in
     (optional_fits refl
-    (sized-fits (λ h. c.optional_row_size-size.ensures h 0x65 a.pool.now c.if-pool-gt-POOL_BYTES.false)
+    (sized-fits (λ h. found _ c.in_ok-size-in-13.was c.optional_row_size.ensures 0x65 a.pool.now c.if-pool-gt-POOL_BYTES.false)
     (sym c.fits-in-13.ensures ∙ c.if-fits-9.true))).1
 
 pub returns-then-fits-9 : goal.returns-then-fits-9
 returns-then-fits-9 c =
     let a = c.args in
     tried_as kind_13 c.kind_of.ensures c.in-13.is
-    (sized-tried (λ h. c.optional_row_size-size.ensures h 0x65 a.pool.now c.if-pool-gt-POOL_BYTES.false)
+    (sized-tried (found _ c.in_ok-size-in-13.was c.optional_row_size.ensures 0x65 a.pool.now c.if-pool-gt-POOL_BYTES.false)
     (sym c.fits-in-13.ensures ∙ c.if-fits-9.true)
     (λ f. put_as a.out.now a.at (optional_bytes refl f) c.put_optional_row.ensures))
 
@@ -194,7 +191,7 @@ pub put_optional_row-requires-then-fits-10 : goal.put_optional_row-requires-then
 put_optional_row-requires-then-fits-10 c =
     let a = c.args in
     let h = optional_fits refl
-    (sized-fits (λ h. c.optional_row_size-size-in-14.ensures h 0x66 a.pool.now c.if-pool-gt-POOL_BYTES.false)
+    (sized-fits (λ h. found _ c.in_ok-size-in-14.was c.optional_row_size-in-14.ensures 0x66 a.pool.now c.if-pool-gt-POOL_BYTES.false)
     (sym c.fits-in-14.ensures ∙ c.if-fits-10.true)) in
     record { row_len = h.0; row_in_bounds = h.1 }
 
@@ -202,7 +199,7 @@ pub returns-then-fits-10 : goal.returns-then-fits-10
 returns-then-fits-10 c =
     let a = c.args in
     tried_as kind_14 c.kind_of.ensures c.in-14.is
-    (sized-tried (λ h. c.optional_row_size-size-in-14.ensures h 0x66 a.pool.now c.if-pool-gt-POOL_BYTES.false)
+    (sized-tried (found _ c.in_ok-size-in-14.was c.optional_row_size-in-14.ensures 0x66 a.pool.now c.if-pool-gt-POOL_BYTES.false)
     (sym c.fits-in-14.ensures ∙ c.if-fits-10.true)
     (λ f. put_as a.out.now a.at (optional_bytes refl f) c.put_optional_row-then-fits-10.ensures))
 
@@ -210,56 +207,20 @@ pub put_resource-requires-clause-row_len : goal.put_resource-requires-clause-row
 put_resource-requires-clause-row_len c =
     let a = c.args in
     (resource_fits refl
-    (sized-fits (λ h. c.resource_size-size.ensures h 0x3f a.pool.now c.if-pool-gt-POOL_BYTES.false)
+    (sized-fits (λ h. found _ c.in_ok-size-in-16.was c.resource_size.ensures 0x3f a.pool.now c.if-pool-gt-POOL_BYTES.false)
     (sym c.fits-in-16.ensures ∙ c.if-fits-11.true))).0
 
 pub put_resource-requires-clause-row_in_bounds : goal.put_resource-requires-clause-row_in_bounds
 put_resource-requires-clause-row_in_bounds c =
     let a = c.args in
     (resource_fits refl
-    (sized-fits (λ h. c.resource_size-size.ensures h 0x3f a.pool.now c.if-pool-gt-POOL_BYTES.false)
+    (sized-fits (λ h. found _ c.in_ok-size-in-16.was c.resource_size.ensures 0x3f a.pool.now c.if-pool-gt-POOL_BYTES.false)
     (sym c.fits-in-16.ensures ∙ c.if-fits-11.true))).1
 
 pub returns-then-fits-11 : goal.returns-then-fits-11
 returns-then-fits-11 c =
     let a = c.args in
     tried_as kind_16 c.kind_of.ensures c.in-16.is
-    (sized-tried (λ h. c.resource_size-size.ensures h 0x3f a.pool.now c.if-pool-gt-POOL_BYTES.false)
+    (sized-tried (found _ c.in_ok-size-in-16.was c.resource_size.ensures 0x3f a.pool.now c.if-pool-gt-POOL_BYTES.false)
     (sym c.fits-in-16.ensures ∙ c.if-fits-11.true)
     (λ f. put_as a.out.now a.at (resource_bytes refl f) c.put_resource.ensures))
-
-pub returns-else-fits : goal.returns-else-fits
-returns-else-fits c = tried_none _ _ _ _ _
-
-pub returns-else-fits-2 : goal.returns-else-fits-2
-returns-else-fits-2 c = tried_none _ _ _ _ _
-
-pub returns-else-fits-3 : goal.returns-else-fits-3
-returns-else-fits-3 c = tried_none _ _ _ _ _
-
-pub returns-else-fits-4 : goal.returns-else-fits-4
-returns-else-fits-4 c = tried_none _ _ _ _ _
-
-pub returns-else-fits-5 : goal.returns-else-fits-5
-returns-else-fits-5 c = tried_none _ _ _ _ _
-
-pub returns-else-fits-6 : goal.returns-else-fits-6
-returns-else-fits-6 c = tried_none _ _ _ _ _
-
-pub returns-else-fits-7 : goal.returns-else-fits-7
-returns-else-fits-7 c = tried_none _ _ _ _ _
-
-pub returns-else-fits-8 : goal.returns-else-fits-8
-returns-else-fits-8 c = tried_none _ _ _ _ _
-
-pub returns-else-fits-9 : goal.returns-else-fits-9
-returns-else-fits-9 c = tried_none _ _ _ _ _
-
-pub returns-else-fits-10 : goal.returns-else-fits-10
-returns-else-fits-10 c = tried_none _ _ _ _ _
-
-pub returns-else-fits-11 : goal.returns-else-fits-11
-returns-else-fits-11 c = tried_none _ _ _ _ _
-
-pub returns-in_default : goal.returns-in_default
-returns-in_default c = tried_none _ _ _ _ _

@@ -17,22 +17,22 @@ returns-then-pool-end c = simp (sym c.word_at-start.ensures, sym c.word_at-size.
 pub overflow_cast-byte : goal.overflow_cast-byte
 overflow_cast-byte c =
     let pool = c.args.pool.now in
-    omega (arith, stops_taken (c.word_at-start.result + c.word_at-size.result - c.word_at-start.result) (drop c.word_at-start.result pool) c.spelling_of.ensures c.in-Stops.is)
+    omega (arith, stops_taken (c.word_at-start.result + c.word_at-size.result - c.word_at-start.result) (drop c.word_at-start.result pool) c.spelling_of.ensures c.in-Err.is)
 
-pub returns-in-Right : goal.returns-in-Right
+pub returns-in-Ok : goal.returns-in-Ok
 unfolding named
-returns-in-Right c =
+returns-in-Ok c =
     simp (
       sym c.word_at-start.ensures,
       sym c.word_at-size.ensures,
       le-leb _ _ c.if-pool-end.false,
-      simp add-sub_cancel_left at (right-text _ (sym c.spelling_of.ensures ∙ c.in-Right.is)),
+      simp add-sub_cancel_left at (right-text _ (sym c.spelling_of.ensures ∙ c.in-Ok.is)),
     )
 
-pub returns-in-Stops : goal.returns-in-Stops
+pub returns-in-Err : goal.returns-in-Err
 unfolding named
-returns-in-Stops c =
-    let stops = sym c.spelling_of.ensures ∙ c.in-Stops.is in
+returns-in-Err c =
+    let stops = sym c.spelling_of.ensures ∙ c.in-Err.is in
     simp (
       c.offset_of.ensures,
       sym c.word_at-start.ensures,

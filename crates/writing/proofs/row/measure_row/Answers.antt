@@ -13,13 +13,13 @@ returns-then-pool-gt-POOL_BYTES c = sym (pool_too_long c.args.found c.args.row.n
 pub returns-then-row-eq0 : goal.returns-then-row-eq0
 returns-then-row-eq0 c = sym (row_empty c.args.found c.args.row.now c.args.pool.now c.if-row-gt-ROW_WORDS.false c.if-pool-gt-POOL_BYTES.false c.if-row-eq0.true)
 
-pub returns-in-Is : goal.returns-in-Is
-returns-in-Is c =
+pub returns-in-Some : goal.returns-in-Some
+returns-in-Some c =
     c.measure_shape.ensures
-    ∙ ap (λ f. measured_found f c.args.row.now c.args.pool.now) (sym c.in-Is.is)
+    ∙ ap (λ f. measured_found f c.args.row.now c.args.pool.now) (sym c.in-Some.is)
     ∙ sym (row_shaped c.args.found c.args.row.now c.args.pool.now c.if-row-gt-ROW_WORDS.false c.if-pool-gt-POOL_BYTES.false c.if-row-eq0.false)
 
-pub returns-in-Not : goal.returns-in-Not
-returns-in-Not c =
+pub returns-in-None : goal.returns-in-None
+returns-in-None c =
     sym (row_shaped c.args.found c.args.row.now c.args.pool.now c.if-row-gt-ROW_WORDS.false c.if-pool-gt-POOL_BYTES.false c.if-row-eq0.false
-    ∙ ap (λ f. measured_found f c.args.row.now c.args.pool.now) c.in-Not.is)
+    ∙ ap (λ f. measured_found f c.args.row.now c.args.pool.now) c.in-None.is)

@@ -3,11 +3,12 @@
 use Prim.Native.Nat.{◌^◌}
 use native.Mathlib.Nat.{mul-le-mul_right}
 use native.Mathlib.Omega.{arith}
-use mathlib.Core.Path.{refl, subst}
+use mathlib.Core.Path.{refl, subst, ◌∙◌}
 use mathlib.Core.List.{[], ◌∷◌}
-use Rattle.fields.specs.declared.Leaf.TheVariants.{Fine}
+use Rattle.fields.specs.Leaf.{Fine}
 use Rattle.fields.specs.inside.Run.{Under}
 use Rattle.fields.specs.Shape.{group, widths}
+use Rattle.fields.proofs.OutcomeLaws.{passed-on}
 use Rattle.fields.proofs.LoopLaws.{pair_fine, pair_bad, walked_bad, walked_end}
 use Rattle.writing.specs.Judge.{judge}
 use Rattle.writing.proofs.JudgedLaws.{after_bound, groups_start, groups_next}
@@ -24,13 +25,14 @@ judge_one-requires-clause-at_bound c =
     (omega arith, omega arith)
 
 -- the first field is bad
-pub returns-in-Bad : goal.returns-in-Bad
-returns-in-Bad c =
+pub returns-in_err-first : goal.returns-in_err-first
+returns-in_err-first c =
     let a = c.args in
-    walked_bad (judge a.pool.now) a.row.now (group a.s) a.n a.from a.base c.loop-i.i c.loop-i.at c.loop-i.made c.loop-i.invariant.walked
+    passed-on _ c.from_residual.ensures
+    ∙ walked_bad (judge a.pool.now) a.row.now (group a.s) a.n a.from a.base c.loop-i.i c.loop-i.at c.loop-i.made c.loop-i.invariant.walked
     c.loop-i-test.true _
     (pair_bad (judge a.pool.now) a.row.now a.s.one a.s.two c.loop-i.at c.loop-i.made c.judge_one.result
-    c.judge_one.ensures _ _ c.in-Bad.is) _ _ refl
+    c.judge_one.ensures _ _ c.in_err-first.was) _ _ refl
 
 -- what is judged of the first is small
 pub judge_one-requires-in-loop-i-clause-at_bound : goal.judge_one-requires-in-loop-i-clause-at_bound
@@ -39,16 +41,17 @@ judge_one-requires-in-loop-i-clause-at_bound c =
     let less = mul-le-mul_right (widths (group a.s)) c.loop-i.invariant.walked.count in
     let u = after_bound a.pool.now a.row.now c.requires.pool_len_bound (Fine c.loop-i.at c.loop-i.made) (a.s.one ∷ []) c.judge_one.result
     c.judge_one.ensures (2 ^ 40) (2 ^ 60) (2 ^ 41) (2 ^ 61) (omega arith, omega arith) (omega arith) (omega arith) in
-    subst (λ l. Under l (2 ^ 41) (2 ^ 61)) c.in-Fine.is u
+    subst (λ l. Under l (2 ^ 41) (2 ^ 61)) c.in_ok-first.was u
 
 -- the second field is bad
-pub returns-in-Bad-judge_one : goal.returns-in-Bad-judge_one
-returns-in-Bad-judge_one c =
+pub returns-in_err-second : goal.returns-in_err-second
+returns-in_err-second c =
     let a = c.args in
-    walked_bad (judge a.pool.now) a.row.now (group a.s) a.n a.from a.base c.loop-i.i c.loop-i.at c.loop-i.made c.loop-i.invariant.walked
+    passed-on _ c.from_residual-in_err-second.ensures
+    ∙ walked_bad (judge a.pool.now) a.row.now (group a.s) a.n a.from a.base c.loop-i.i c.loop-i.at c.loop-i.made c.loop-i.invariant.walked
     c.loop-i-test.true c.judge_one-in-loop-i.result
     (pair_fine (judge a.pool.now) a.row.now a.s.one a.s.two c.loop-i.at c.loop-i.made c.judge_one.result
-    c.judge_one.ensures c.in-Fine.is c.judge_one-in-loop-i.result c.judge_one-in-loop-i.ensures) _ _ c.in-Bad-judge_one.is
+    c.judge_one.ensures c.in_ok-first.was c.judge_one-in-loop-i.result c.judge_one-in-loop-i.ensures) _ _ c.in_err-second.was
 
 pub loop-i-smaller : goal.loop-i-smaller
 loop-i-smaller c = omega arith
@@ -59,7 +62,7 @@ loop-i-preserved c =
     groups_next a.pool.now a.row.now (group a.s) a.n a.from a.base c.loop-i.i c.loop-i.at c.loop-i.made c.loop-i.invariant
     c.loop-i-test.true c.judge_one-in-loop-i.result
     (pair_fine (judge a.pool.now) a.row.now a.s.one a.s.two c.loop-i.at c.loop-i.made c.judge_one.result
-    c.judge_one.ensures c.in-Fine.is c.judge_one-in-loop-i.result c.judge_one-in-loop-i.ensures) _ _ c.requires.pool_len_bound c.in-Fine-judge_one.is
+    c.judge_one.ensures c.in_ok-first.was c.judge_one-in-loop-i.result c.judge_one-in-loop-i.ensures) _ _ c.requires.pool_len_bound c.in_ok-second.was
 
 pub returns : goal.returns
 returns c =

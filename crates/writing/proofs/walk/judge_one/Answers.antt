@@ -12,15 +12,15 @@ overflow_add-next c = let small = wide_at_most _ _ c.wide_of.ensures in omega ar
 pub overflow_add-place : goal.overflow_add-place
 overflow_add-place c =
     let a = c.args in
-    omega (arith, wrong-near a.pool.now a.f c.rest_of-ws.result.now _ _ (sym c.flaw_of.ensures ∙ c.in-Wrong.is))
+    omega (arith, wrong-near a.pool.now a.f c.rest_of-ws.result.now _ _ (sym c.flaw_of.ensures ∙ c.in-Err.is))
 
-pub returns-in-Right : goal.returns-in-Right
-returns-in-Right c =
+pub returns-in-Ok : goal.returns-in-Ok
+returns-in-Ok c =
     let a = c.args in
-    one_right a.pool.now a.row.now a.f a.at a.made _ c.rest_of-ws.ensures (sym c.flaw_of.ensures ∙ c.in-Right.is)
+    one_right a.pool.now a.row.now a.f a.at a.made _ c.rest_of-ws.ensures (sym c.flaw_of.ensures ∙ c.in-Ok.is)
     _ _ c.wide_of.ensures c.size_of.ensures.0
 
-pub returns-in-Wrong : goal.returns-in-Wrong
-returns-in-Wrong c =
+pub returns-in-Err : goal.returns-in-Err
+returns-in-Err c =
     let a = c.args in
-    one_wrong a.pool.now a.row.now a.f a.at a.made _ c.rest_of-ws.ensures _ _ (sym c.flaw_of.ensures ∙ c.in-Wrong.is)
+    one_wrong a.pool.now a.row.now a.f a.at a.made _ c.rest_of-ws.ensures _ _ (sym c.flaw_of.ensures ∙ c.in-Err.is)
