@@ -5,49 +5,49 @@ ghost use Rattle.std.specs.Prelude.{◌≡◌};
 ghost use Rattle.fields.specs.Answers.{left};
 ghost use Rattle.box_loop.specs.Script.{scripted, closed};
 
-use fields::Answer;
+use fields::{Answer, Fault};
 use sections::{Section, Turned};
 use telling::{say, say_field};
 
 // Which step a line is of.
-const ROW: u32 = 0;
+#[derive(Clone, Copy)]
+enum Step {
+    Row,
+    Open,
+    Head,
+    Result,
+    Abandon,
+    Finish,
+}
 
-const OPEN: u32 = 1;
-
-const HEAD: u32 = 2;
-
-const RESULT: u32 = 3;
-
-const ABANDON: u32 = 4;
-
-const FINISH: u32 = 5;
-
-fn say_step(rt: &HostRuntime, step: u32) -> usize {
-    match step {
-        0 => say(rt, b"row"),
-        1 => say(rt, b"open"),
-        2 => say(rt, b"head"),
-        3 => say(rt, b"result"),
-        4 => say(rt, b"abandon"),
-        _ => say(rt, b"finish"),
+impl Step {
+    fn name(self) -> &'static [u8] {
+        match self {
+            Step::Row => b"row",
+            Step::Open => b"open",
+            Step::Head => b"head",
+            Step::Result => b"result",
+            Step::Abandon => b"abandon",
+            Step::Finish => b"finish",
+        }
     }
 }
 
 // The line of a step: its name, the number and the value of its answer, and the state it leaves.
-fn show(rt: &HostRuntime, step: u32, answer: Answer, section: Section) {
-    say_step(rt, step);
+fn show(rt: &HostRuntime, step: Step, answer: Answer, section: Section) {
+    say(rt, step.name());
     match answer {
-        Answer::Size(size) => {
+        Ok(size) => {
             say(rt, b" 0");
             say_field(rt, b" ", size as u64);
         }
-        Answer::Refused(why, value) => {
-            say_field(rt, b" ", fields::number_of(why) as u64);
+        Err(Fault { why, value }) => {
+            say_field(rt, b" ", u64::from(fields::number_of(why)));
             say_field(rt, b" ", value as u64);
         }
     }
     say_field(rt, b" used ", section.used as u64);
-    say_field(rt, b" count ", section.count as u64);
+    say_field(rt, b" count ", u64::from(section.count));
     say(rt, b"\n");
 }
 
@@ -66,35 +66,59 @@ fn by_lending(
         × (body.new ≡ (scripted row.now words.now pool.now body.old).body) }
 {
     let mut section = Section::new(7);
-    show(rt, ROW, lent::row(&mut section, row, pool, body), section);
-    show(rt, ROW, lent::row(&mut section, words, pool, body), section);
-    show(rt, OPEN, lent::open(&mut section, body), section);
-    show(rt, OPEN, lent::open(&mut section, body), section);
-    show(rt, RESULT, lent::result(&mut section, 0, 12, body), section);
     show(
         rt,
-        HEAD,
+        Step::Row,
+        lent::row(&mut section, row, pool, body),
+        section,
+    );
+    show(
+        rt,
+        Step::Row,
+        lent::row(&mut section, words, pool, body),
+        section,
+    );
+    show(rt, Step::Open, lent::open(&mut section, body), section);
+    show(rt, Step::Open, lent::open(&mut section, body), section);
+    show(
+        rt,
+        Step::Result,
+        lent::result(&mut section, 0, 12, body),
+        section,
+    );
+    show(
+        rt,
+        Step::Head,
         lent::head(&mut section, words, pool, body),
         section,
     );
-    show(rt, RESULT, lent::result(&mut section, 0, 12, body), section);
-    show(rt, OPEN, lent::open(&mut section, body), section);
     show(
         rt,
-        HEAD,
+        Step::Result,
+        lent::result(&mut section, 0, 12, body),
+        section,
+    );
+    show(rt, Step::Open, lent::open(&mut section, body), section);
+    show(
+        rt,
+        Step::Head,
         lent::head(&mut section, words, pool, body),
         section,
     );
-    show(rt, ABANDON, lent::abandon(&mut section, body), section);
+    show(
+        rt,
+        Step::Abandon,
+        lent::abandon(&mut section, body),
+        section,
+    );
     let finished = lent::finish(&section, body, out);
-    show(rt, FINISH, finished, section);
+    show(rt, Step::Finish, finished, section);
     finished
 }
 
 // The line of a step by value, and the state it hands on.
-fn shown(rt: &HostRuntime, step: u32, turned: Turned) -> Section {
-    let section = turned.section;
-    let answer = turned.answer;
+fn shown(rt: &HostRuntime, step: Step, turned: Turned) -> Section {
+    let Turned { section, answer } = turned;
     show(rt, step, answer, section);
     section
 }
@@ -108,15 +132,15 @@ fn rows_by_value(
     pool: &[u8],
     body: &mut [u8],
 ) -> Section {
-    let one = shown(rt, ROW, section.row(row, pool, body));
-    shown(rt, ROW, one.row(words, pool, body))
+    let one = shown(rt, Step::Row, section.row(row, pool, body));
+    shown(rt, Step::Row, one.row(words, pool, body))
 }
 
 // the function, with an opening and a result out of turn,
 fn open_by_value(rt: &HostRuntime, section: Section, body: &mut [u8]) -> Section {
-    let one = shown(rt, OPEN, section.open(body));
-    let two = shown(rt, OPEN, one.open(body));
-    shown(rt, RESULT, two.result(0, 12, body))
+    let one = shown(rt, Step::Open, section.open(body));
+    let two = shown(rt, Step::Open, one.open(body));
+    shown(rt, Step::Result, two.result(0, 12, body))
 }
 
 fn close_by_value(
@@ -126,8 +150,8 @@ fn close_by_value(
     pool: &[u8],
     body: &mut [u8],
 ) -> Section {
-    let one = shown(rt, HEAD, section.head(words, pool, body));
-    shown(rt, RESULT, one.result(0, 12, body))
+    let one = shown(rt, Step::Head, section.head(words, pool, body));
+    shown(rt, Step::Result, one.result(0, 12, body))
 }
 
 // the function that is abandoned,
@@ -138,25 +162,25 @@ fn abandon_by_value(
     pool: &[u8],
     body: &mut [u8],
 ) -> Section {
-    let one = shown(rt, OPEN, section.open(body));
-    let two = shown(rt, HEAD, one.head(words, pool, body));
-    shown(rt, ABANDON, two.abandon(body))
+    let one = shown(rt, Step::Open, section.open(body));
+    let two = shown(rt, Step::Head, one.head(words, pool, body));
+    shown(rt, Step::Abandon, two.abandon(body))
 }
 
 // and the end.
 fn finish_by_value(rt: &HostRuntime, section: Section, body: &[u8], out: &mut [u8]) -> Answer {
     let finished = section.finish(body, out);
-    show(rt, FINISH, finished, section);
+    show(rt, Step::Finish, finished, section);
     finished
 }
 
 // The finished section.
 fn say_finished(rt: &HostRuntime, answer: Answer, out: &[u8]) {
     match answer {
-        Answer::Size(size) => {
+        Ok(size) => {
             telling::say_bytes(rt, numbers::part(out, 0, size));
         }
-        Answer::Refused(_, _) => {
+        Err(_) => {
             say(rt, b"refused");
         }
     }

@@ -2,7 +2,7 @@
 // ` byte B` behind it for a name that is not UTF-8.
 #![tactic(auto)]
 
-use fields::{Answer, Refusal};
+use fields::{Answer, Fault, Refusal};
 use telling::{say, say_field};
 
 fn say_section(rt: &HostRuntime, section: &[u8]) {
@@ -12,7 +12,7 @@ fn say_section(rt: &HostRuntime, section: &[u8]) {
 }
 
 fn say_refusal(rt: &HostRuntime, why: Refusal, row: usize) {
-    say_field(rt, b"refused ", fields::number_of(why) as u64);
+    say_field(rt, b"refused ", u64::from(fields::number_of(why)));
     say_field(rt, b" at row ", row as u64);
     telling::say_byte(rt, why);
     say(rt, b"\n");
@@ -25,7 +25,7 @@ fn main(rt: HostRuntime) {
     let mut body = [0u8; 32768];
     let mut out = [0u8; 32800];
     match sheets::sheet(&input[..n], &mut body, &mut out) {
-        Answer::Size(size) => say_section(&rt, numbers::part(&out, 0, size)),
-        Answer::Refused(why, row) => say_refusal(&rt, why, row),
+        Ok(size) => say_section(&rt, numbers::part(&out, 0, size)),
+        Err(Fault { why, value: row }) => say_refusal(&rt, why, row),
     }
 }

@@ -24,11 +24,40 @@
 //   times that, and 128^2 * 64: 7,340,032.
 #![tactic(auto)]
 
-use numbers::{Spelling, Taken};
+use numbers::{NoNumber, NotText, Number};
 use telling::{say, say_field};
 
-// What one number form makes of the inputs of one length.
+// The two number forms.
 #[derive(Clone, Copy)]
+enum Form {
+    Unsigned,
+    Signed,
+}
+
+impl Form {
+    fn take(self, input: &[u8]) -> Result<Number, NoNumber> {
+        match self {
+            Form::Unsigned => numbers::take_unsigned(input),
+            Form::Signed => numbers::take_signed(input),
+        }
+    }
+
+    // How many bytes n is put as.
+    fn shortest(self, n: u32) -> usize {
+        match self {
+            Form::Unsigned => numbers::unsigned_size(n),
+            Form::Signed => numbers::signed_size(n),
+        }
+    }
+}
+
+// Counts stay far below 2^64.
+fn count(n: &mut u64) {
+    *n = n.saturating_add(1);
+}
+
+// What one number form makes of the inputs of one length.
+#[derive(Clone, Copy, Default)]
 struct Numbers {
     // The number ends with the input.
     whole: u64,
@@ -43,146 +72,84 @@ struct Numbers {
 }
 
 impl Numbers {
-    fn none() -> Numbers {
-        Numbers {
-            whole: 0,
-            padded: 0,
-            longer: 0,
-            cut: 0,
-            bad: 0,
-        }
-    }
-
-    // One answer more, for an input of `length` bytes.
-    fn with(self, taken: Taken, length: usize, signed: bool) -> Numbers {
-        let mut next = self;
-        match taken {
-            Taken::Value(n, t) => {
-                if t == length {
-                    next.whole = one_more(self.whole);
-                    if shortest(n, signed) < t {
-                        next.padded = one_more(self.padded);
+    // One input more.
+    fn add(&mut self, form: Form, input: &[u8]) {
+        match form.take(input) {
+            Ok(Number { value, took }) => {
+                if took == input.len() {
+                    count(&mut self.whole);
+                    if form.shortest(value) < took {
+                        count(&mut self.padded);
                     }
                 } else {
-                    next.longer = one_more(self.longer);
+                    count(&mut self.longer);
                 }
             }
-            Taken::Cut => {
-                next.cut = one_more(self.cut);
-            }
-            Taken::Bad => {
-                next.bad = one_more(self.bad);
-            }
-        }
-        next
-    }
-}
-
-// What the name check makes of the inputs of one length.
-#[derive(Clone, Copy)]
-struct Names {
-    // Text.
-    text: u64,
-    // Names that stop at offset 0, 1, 2 and 3.
-    at_0: u64,
-    at_1: u64,
-    at_2: u64,
-    at_3: u64,
-}
-
-impl Names {
-    fn none() -> Names {
-        Names {
-            text: 0,
-            at_0: 0,
-            at_1: 0,
-            at_2: 0,
-            at_3: 0,
+            Err(NoNumber::Cut) => count(&mut self.cut),
+            Err(NoNumber::Bad) => count(&mut self.bad),
         }
     }
 
-    // One input more.
-    fn with(self, input: &[u8]) -> Names {
-        let mut next = self;
-        if numbers::is_text(input) {
-            next.text = one_more(self.text);
-        }
-        if let Spelling::Stops(n) = numbers::spelling_of(input) {
-            match n {
-                0 => {
-                    next.at_0 = one_more(self.at_0);
-                }
-                1 => {
-                    next.at_1 = one_more(self.at_1);
-                }
-                2 => {
-                    next.at_2 = one_more(self.at_2);
-                }
-                3 => {
-                    next.at_3 = one_more(self.at_3);
-                }
-                _ => {}
-            }
-        }
-        next
-    }
-
-    fn print(self, rt: &HostRuntime) {
-        say_field(rt, b": text ", self.text);
-        say_field(rt, b"\n  stops at 0: ", self.at_0);
-        say_field(rt, b", at 1: ", self.at_1);
-        say_field(rt, b", at 2: ", self.at_2);
-        say_field(rt, b", at 3: ", self.at_3);
+    fn print(self, rt: &HostRuntime, form: &[u8]) {
+        say(rt, form);
+        say_field(rt, b" whole ", self.whole);
+        say_field(rt, b" padded ", self.padded);
+        say_field(rt, b" longer ", self.longer);
+        say_field(rt, b" cut ", self.cut);
+        say_field(rt, b" bad ", self.bad);
         say(rt, b"\n");
     }
 }
 
-// Counts stay far below 2^64, so the sum never wraps.
-fn one_more(n: u64) -> u64 {
-    std::num::wrapping_add_u64(n, 1)
+// What the name check makes of the inputs of one length.
+#[derive(Clone, Copy, Default)]
+struct Names {
+    // Text.
+    text: u64,
+    // Names that stop at offset 0, 1, 2 and 3.
+    stops: [u64; 4],
 }
 
-// How many bytes n is put as.
-fn shortest(n: u32, signed: bool) -> usize {
-    if signed {
-        numbers::signed_size(n)
-    } else {
-        numbers::unsigned_size(n)
+impl Names {
+    // One input more.
+    fn add(&mut self, input: &[u8]) {
+        if numbers::is_text(input) {
+            count(&mut self.text);
+        }
+        if let Err(NotText { stop }) = numbers::spelling_of(input) {
+            if let Some(n) = self.stops.get_mut(stop) {
+                count(n);
+            }
+        }
     }
-}
 
-fn print(rt: &HostRuntime, form: &[u8], n: Numbers) {
-    say(rt, form);
-    say_field(rt, b" whole ", n.whole);
-    say_field(rt, b" padded ", n.padded);
-    say_field(rt, b" longer ", n.longer);
-    say_field(rt, b" cut ", n.cut);
-    say_field(rt, b" bad ", n.bad);
-    say(rt, b"\n");
+    fn print(self, rt: &HostRuntime) {
+        let [at_0, at_1, at_2, at_3] = self.stops;
+        say_field(rt, b": text ", self.text);
+        say_field(rt, b"\n  stops at 0: ", at_0);
+        say_field(rt, b", at 1: ", at_1);
+        say_field(rt, b", at 2: ", at_2);
+        say_field(rt, b", at 3: ", at_3);
+        say(rt, b"\n");
+    }
 }
 
 // Every input of `length` bytes, of which there are `total`.
 fn every(rt: &HostRuntime, length: usize, total: u32) {
-    let mut unsigned = Numbers::none();
-    let mut signed = Numbers::none();
-    let mut names = Names::none();
-    let mut i: u32 = 0;
-    while i < total {
-        let bytes = [
-            (i % 256) as u8,
-            (i / 256 % 256) as u8,
-            (i / 65536 % 256) as u8,
-        ];
+    let mut unsigned = Numbers::default();
+    let mut signed = Numbers::default();
+    let mut names = Names::default();
+    for i in 0..total {
+        let bytes = i.to_le_bytes();
         let input = numbers::part(&bytes, 0, length);
-        unsigned = unsigned.with(numbers::take_unsigned(input), length, false);
-        signed = signed.with(numbers::take_signed(input), length, true);
-        names = names.with(input);
-        i += 1;
+        unsigned.add(Form::Unsigned, input);
+        signed.add(Form::Signed, input);
+        names.add(input);
     }
     say_field(rt, b"inputs of length ", length as u64);
     names.print(rt);
-    print(rt, b"  unsigned", unsigned);
-    print(rt, b"  signed", signed);
+    unsigned.print(rt, b"  unsigned");
+    signed.print(rt, b"  signed");
 }
 
 fn main(rt: HostRuntime) {

@@ -1,44 +1,34 @@
--- The laws of `specs/Lines.antt`: what a loop over a line does at a place, and that the next byte's place lies within the line.
--- Assumes nothing.
-use Rattle.std.proofs.Common.{◌≡◌, ℕ, suc, ◌<◌, ◌≤◌, Bool, true, false, cond, eqb, List, [], ◌∷◌, length, get_or, drop, arith, length-drop, drop_of_length-le, drop-cons, eq-eqb, ne_eqb}
-use Rattle.telling.specs.Lines.{starts, until, next_of}
+-- The laws of `specs/Lines.antt`: `starts` and `until` in the words of std. Assumes nothing.
+use Rattle.std.proofs.Common.{◌≡◌, ℕ, suc, ◌≤◌, Bool, true, false, ◌&&◌, cond, eqb, List, [], ◌∷◌, length, take, refl, sym, one-add, arith, eqb-true, eq-eqb, ne_eqb, ltb, ltb-false, Some, None}
+use Rattle.std.specs.Cmp.Lexicographic.{pointwise}
+use Rattle.std.specs.List.{position_or_len}
+use Rattle.std.specs.Option.{unwrap_or}
+use Rattle.std.proofs.lemmas.Bool.{eqb-false}
+use Rattle.std.proofs.lemmas.List.Recursion.{is_position_or_len}
+use Rattle.telling.specs.Lines.{starts, until}
 
--- ---- the line begins with the word
+eqb-sym : (a b : ℕ) → eqb a b ≡ eqb b a
+eqb-sym a b = go (eqb b a) refl
+  where
+    go : (t : Bool) → eqb b a ≡ t → eqb a b ≡ t
+    go true e = eq-eqb a b (sym (eqb-true b a e))
+    go false e = ne_eqb a b (λ h. eqb-false b a e (sym h))
 
-module _ (line word : List ℕ) (i : ℕ) where
-  pub starts-on :
-      i < length line → i < length word → get_or line i 0 ≡ get_or word i 0
-      → starts (drop i line) (drop i word) ≡ starts (drop (suc i) line) (drop (suc i) word)
-  unfolding starts
-  starts-on l w e = rw (drop-cons line i 0, drop-cons word i 0) (simp (eq-eqb _ _ e))
+-- the line's front is the word, byte by byte
+pub starts_pointwise : (line word : List ℕ) → pointwise eqb word (take (length word) line) ≡ starts line word
+unfolding starts
+starts_pointwise line [] = refl
+starts_pointwise [] (w ∷ word) = refl
+starts_pointwise (b ∷ line) (w ∷ word) = rw (eqb-sym w b, starts_pointwise line word) (go (eqb b w))
+  where
+    go : (t : Bool) → t && starts line word ≡ cond t (starts line word) false
+    go true = refl
+    go false = refl
 
-  pub starts-not :
-      i < length line → i < length word → (get_or line i 0 ≡ get_or word i 0 → ⊥) → starts (drop i line) (drop i word) ≡ false
-  unfolding starts
-  starts-not l w e = rw (drop-cons line i 0, drop-cons word i 0) (simp (ne_eqb _ _ e))
-
-  pub starts_short : length line ≤ i → i < length word → starts (drop i line) (drop i word) ≡ false
-  unfolding starts
-  starts_short l w = rw (drop_of_length-le line l, drop-cons word i 0)
-
-  pub starts_all : length word ≤ i → starts (drop i line) (drop i word) ≡ true
-  unfolding starts
-  starts_all w = rw (drop_of_length-le word w)
-
--- ---- the next byte
-
-module _ (s : List ℕ) (i byte : ℕ) where
-  pub next_here : i < length s → get_or s i 0 ≡ byte → next_of s i byte ≡ i
-  unfolding until
-  next_here l e = rw (drop-cons s i 0) (simp (eq-eqb _ _ e) (omega arith))
-
-  pub next_on : i < length s → (get_or s i 0 ≡ byte → ⊥) → next_of s i byte ≡ next_of s (suc i) byte
-  unfolding until
-  next_on l e = rw (drop-cons s i 0) (simp (ne_eqb _ _ e) (omega arith))
-
-  pub next_end : length s ≤ i → next_of s i byte ≡ i
-  unfolding until
-  next_end l = rw (drop_of_length-le s l) (omega arith)
+-- the first place that holds the byte
+pub until_position : (byte : ℕ) (s : List ℕ) → until byte s ≡ position_or_len (λ b. eqb b byte) s
+unfolding until
+until_position byte = is_position_or_len (until byte) (λ b. eqb b byte) refl (λ b s. rw one-add refl)
 
 until-within : (byte : ℕ) (s : List ℕ) → until byte s ≤ length s
 unfolding until
@@ -49,6 +39,14 @@ until-within byte (b ∷ s) = go (eqb b byte) (until-within byte s)
     go true h = omega arith
     go false h = omega arith
 
--- the next byte's place, or the end, lies within the line
-pub next-within : (byte : ℕ) (s : List ℕ) (from : ℕ) → from ≤ length s → next_of s from byte ≤ length s
-next-within byte s from h = omega (arith, until-within byte (drop from s), length-drop from s)
+-- what `position` answers, or the length
+pub next_position :
+    (byte : ℕ) (s : List ℕ)
+    → let n = position_or_len (λ b. eqb b byte) s in unwrap_or (cond (ltb n (length s)) (Some n) None) (length s) ≡ until byte s
+next_position byte s = rw (← until_position byte s) (go (ltb (until byte s) (length s)) refl (until-within byte s))
+  where
+    go :
+        (t : Bool) → ltb (until byte s) (length s) ≡ t → until byte s ≤ length s
+        → unwrap_or (cond t (Some (until byte s)) None) (length s) ≡ until byte s
+    go true e h = refl
+    go false e h = let k = ltb-false _ _ e in omega arith

@@ -1,18 +1,13 @@
--- The laws of `specs/Numerals.antt`: a digit more by sums, and what a loop over a line's numbers does at a place. Assumes nothing.
-use Rattle.std.proofs.Common.{◌≡◌, ℕ, zero, suc, ◌+◌, ◌-◌, ◌*◌, ◌%◌, ◌^◌, ◌<◌, ◌≤◌, Bool, true, false, cond, eqb, List, [], ◌∷◌, length, get_or, drop, set, refl, ap, ◌∙◌, add-zero, add-suc, add-one, arith, length-drop, drop_of_length-le, drop-cons, drop-drop, eq-eqb, ne_eqb}
-use native.Mathlib.Nat.{mod-add-mod, add-mod-mod}
+-- The laws of `specs/Numerals.antt`: a line's numbers stand in its parts between spaces, and what a loop over them does. Assumes nothing.
+use Rattle.std.proofs.Common.{◌≡◌, ℕ, suc, ◌+◌, ◌%◌, ◌^◌, ◌<◌, ◌≤◌, Bool, true, false, eqb, List, [], ◌∷◌, ◌++◌, length, get_or, drop, set, map, refl, ap, ◌∙◌, add-zero, arith, drop_of_length-le, drop-cons, eq-eqb, ne_eqb, Option, Bor}
+use Rattle.std.specs.List.{slice_split, slice_get}
+use Rattle.std.specs.Option.{unwrap_or, option_map}
+use Rattle.std.proofs.lemmas.Option.{unwrap_or-slice_get, slice_get-map}
+use Rattle.std.proofs.lemmas.List.{length-map}
 use lib.Seq.{sets}
-use Rattle.telling.specs.Lines.{until, next_of}
-use Rattle.telling.specs.Numerals.{with_digit, number_from, numbers_in, words_in, put}
+use Rattle.telling.specs.Numerals.{with_digit, number_from, numbers_in, words_in, put, put_all}
 
--- ten times a number by doubling, and a digit
-abbrev add : ℕ → ℕ → ℕ
-add a b = (a + b) % 2 ^ 64
-
-pub tenfold : (n d : ℕ) → add (add (add (add (add n n) (add n n)) n) (add (add (add n n) (add n n)) n)) d ≡ add (n * 10) d
-tenfold n d = simp (mod-add-mod, add-mod-mod) (ap (λ x. x % 2 ^ 64) (omega arith))
-
--- ---- the number at a place
+-- ---- the number of a part
 
 module _ (n : ℕ) (s : List ℕ) (i : ℕ) where
   pub number_here : i < length s → get_or s i 0 ≡ 32 → number_from n (drop i s) ≡ n
@@ -28,73 +23,65 @@ module _ (n : ℕ) (s : List ℕ) (i : ℕ) where
   unfolding number_from
   number_end l = rw (drop_of_length-le s l)
 
--- ---- the numbers from a place on
+-- ---- the numbers of a line
 
-first-number :
-    (s : List ℕ) → until 32 s < length s
-    → numbers_in s ≡ number_from 0 (drop (suc (until 32 s)) s) ∷ numbers_in (drop (suc (until 32 s)) s)
-unfolding until numbers_in
-first-number [] h = absurd (omega arith)
-first-number (b ∷ s) h = go (eqb b 32) h (first-number s)
+-- the parts of a line between its spaces: the first has the digits up to the first space, and each other is a number
+record IsSplit (s : List ℕ) (parts : List (List ℕ)) : Type 0 where
+  first : List ℕ
+  others : List (List ℕ)
+  parts_are : parts ≡ first ∷ others
+  first_has : (n : ℕ) → number_from n first ≡ number_from n s
+  others_have : map (λ part. number_from 0 part) others ≡ numbers_in s
+
+splits : (s : List ℕ) → IsSplit s (slice_split (λ b. eqb b 32) s)
+unfolding number_from numbers_in
+splits [] = record { first = []; others = []; parts_are = refl; first_has = λ n. refl; others_have = refl }
+splits (b ∷ s) = go (eqb b 32) refl (splits s)
   where
     go :
-        (t : Bool) → cond t 0 (suc (until 32 s)) < suc (length s)
-        → (until 32 s < length s → numbers_in s ≡ number_from 0 (drop (suc (until 32 s)) s) ∷ numbers_in (drop (suc (until 32 s)) s))
-        → cond t (number_from 0 s ∷ numbers_in s) (numbers_in s)
-        ≡ number_from 0 (drop (cond t 0 (suc (until 32 s))) s) ∷ numbers_in (drop (cond t 0 (suc (until 32 s))) s)
-    go true l k = refl
-    go false l k = k (omega arith)
+        (t : Bool) → eqb b 32 ≡ t → IsSplit s (slice_split (λ b. eqb b 32) s) → IsSplit (b ∷ s) (slice_split (λ b. eqb b 32) (b ∷ s))
+    go true e h = record {
+      first = [];
+      others = slice_split (λ b. eqb b 32) s;
+      parts_are = rw e refl;
+      first_has = λ n. rw e refl;
+      others_have = rw (e, h.parts_are) (simp (h.first_has 0, h.others_have));
+    }
+    go false e h = record {
+      first = b ∷ h.first;
+      others = h.others;
+      parts_are = rw (e, h.parts_are) refl;
+      first_has = λ n. rw e (h.first_has (with_digit n b));
+      others_have = rw e h.others_have;
+    }
 
-no_number : (s : List ℕ) → length s ≤ until 32 s → numbers_in s ≡ []
-unfolding until numbers_in
-no_number [] h = refl
-no_number (b ∷ s) h = go (eqb b 32) h (no_number s)
+pub numbers-parts : (s : List ℕ) → map (λ part. number_from 0 part) (drop 1 (slice_split (λ b. eqb b 32) s)) ≡ numbers_in s
+numbers-parts s = let h = splits s in rw h.parts_are h.others_have
+
+pub number-at :
+    (s : List ℕ) (place : ℕ) (r : Option (Bor (List ℕ)))
+    → option_map (λ x. x.now) r ≡ slice_get (drop 1 (slice_split (λ b. eqb b 32) s)) place
+    → unwrap_or (option_map (λ part. number_from 0 part) (option_map (λ x. x.now) r)) 0 ≡ get_or (numbers_in s) place 0
+number-at s place r e =
+    rw (e, ← slice_get-map (λ part. number_from 0 part) (drop 1 (slice_split (λ b. eqb b 32) s)) place, numbers-parts s) (unwrap_or-slice_get (numbers_in s) place 0)
+
+-- ---- a word more
+
+pub sets-append : (row : List ℕ) (i : ℕ) (words : List ℕ) (word : ℕ) → sets row i (words ++ (word ∷ [])) ≡ set (sets row i words) (i + length words) word
+sets-append row i [] word = rw (add-zero i)
+sets-append row i (w ∷ words) word = sets-append (set row i w) (suc i) words word ∙ ap (λ k. set (sets (set row i w) (suc i) words) k word) (omega arith)
+
+-- ---- all of them
+
+pub words-put :
+    (s row : List ℕ) (parts : List (Bor (List ℕ)))
+    → map (λ x. x.now) parts ≡ drop 1 (slice_split (λ b. eqb b 32) s)
+    → put (length parts) (sets row 0 (map (λ part. number_from 0 part.now % 2 ^ 32) parts)) ≡ put_all (words_in s) row
+words-put s row parts e = rw (← numbers-parts s, ← e, go parts, length-map)
   where
     go :
-        (t : Bool) → suc (length s) ≤ cond t 0 (suc (until 32 s)) → (length s ≤ until 32 s → numbers_in s ≡ [])
-        → cond t (number_from 0 s ∷ numbers_in s) (numbers_in s) ≡ []
-    go true l k = absurd (omega arith)
-    go false l k = k (omega arith)
-
--- `space` is the place of the next space from `from` on
-module _ (line : List ℕ) (from space : ℕ) (e : space ≡ next_of line from 32) where
-  -- behind it stands the first of the numbers
-  pub numbers_on :
-      space < length line
-      → numbers_in (drop from line) ≡ number_from 0 (drop (space + 1) line) ∷ numbers_in (drop (space + 1) line)
-  numbers_on h =
-      first-number (drop from line) (omega (arith, length-drop from line)) ∙ simp (drop-drop, add-suc, ← e, add-one)
-
-  pub number-first :
-      (k : ℕ) → space < length line → k ≡ 0 → get_or (numbers_in (drop from line)) k 0 ≡ number_from 0 (drop (space + 1) line)
-  number-first k h z = rw (z, numbers_on h)
-
-  pub number-later :
-      (k : ℕ) → space < length line → (k ≡ 0 → ⊥)
-      → get_or (numbers_in (drop from line)) k 0 ≡ get_or (numbers_in (drop (space + 1) line)) (k - 1) 0
-  number-later zero h z = absurd (z refl)
-  number-later (suc k) h z =
-      let e : suc k - 1 ≡ k = omega arith in
-      rw (e, numbers_on h)
-
-  -- of the words, the first goes to its place
-  pub words-on :
-      (n : ℕ) (row : List ℕ) → space < length line
-      → put (n + length (words_in (drop from line))) (sets row n (words_in (drop from line)))
-      ≡ put (n + 1 + length (words_in (drop (space + 1) line)))
-      (sets (set row n (number_from 0 (drop (space + 1) line) % 2 ^ 32)) (n + 1) (words_in (drop (space + 1) line)))
-  words-on n row h =
-      let k : n + suc (length (words_in (drop (space + 1) line))) ≡ n + 1 + length (words_in (drop (space + 1) line)) = omega arith in
-      rw (numbers_on h, k, add-one n)
-
-  -- without a space there is none
-  none : from ≤ length line → length line ≤ space → numbers_in (drop from line) ≡ []
-  none f h = no_number (drop from line) (omega (arith, length-drop from line))
-
-  pub number_none : (k : ℕ) → from ≤ length line → length line ≤ space → get_or (numbers_in (drop from line)) k 0 ≡ 0
-  number_none k f h = rw (none f h)
-
-  pub words-none :
-      (n : ℕ) (row : List ℕ) → from ≤ length line → length line ≤ space
-      → put (n + length (words_in (drop from line))) (sets row n (words_in (drop from line))) ≡ put n row
-  words-none n row f h = rw (none f h, add-zero)
+        (parts : List (Bor (List ℕ)))
+        → map (λ n. n % 2 ^ 32) (map (λ part. number_from 0 part) (map (λ x. x.now) parts))
+        ≡ map (λ part. number_from 0 part.now % 2 ^ 32) parts
+    go [] = refl
+    go (part ∷ parts) = rw (go parts)

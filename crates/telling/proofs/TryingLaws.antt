@@ -1,5 +1,5 @@
 -- The laws of `specs/Trying.antt`: a place more that is filled, and what is kept, part by part. Assumes nothing.
-use Rattle.std.proofs.Common.{◌≡◌, ℕ, zero, suc, ◌+◌, ◌<◌, ◌≤◌, Bool, true, false, cond, List, ◌++◌, length, take, drop, set, refl, append_assoc, append-nil, arith, length-append, drop_of_length-le, take_all, drop-cons}
+use Rattle.std.proofs.Common.{◌≡◌, ℕ, zero, suc, ◌+◌, ◌<◌, ◌≤◌, Bool, true, false, List, ◌++◌, length, take, drop, set, refl, append_assoc, append-nil, arith, min, ◌^◌, ltb, ltb-true, ltb-false, length-append, drop_of_length-le, drop-cons}
 use lib.Seq.{set_at}
 use Rattle.telling.specs.Lines.{starts}
 use Rattle.telling.specs.Trying.{pattern_at, filled, kept}
@@ -19,29 +19,23 @@ fill_on turned n out h =
 pub fill_end : (turned : Bool) (n : ℕ) (out : List ℕ) → length out ≤ n → filled turned n ++ drop n out ≡ filled turned n
 fill_end turned n out h = rw (drop_of_length-le out h, append-nil)
 
+-- ---- what is kept
+
+-- a place that is cut at the largest one lies behind every slice
+pub drop_capped : (m n : ℕ) (s : List ℕ) → m ≡ min n 18446744073709551615 → length s < 2 ^ 64 → drop m s ≡ drop n s
+drop_capped m n s e h = go (ltb n 18446744073709551616) refl
+  where
+    go : (t : Bool) → ltb n 18446744073709551616 ≡ t → drop m s ≡ drop n s
+    go true k = let i : m ≡ n = omega (arith, ltb-true _ _ k) in rw i
+    go false k =
+        rw (drop_of_length-le s {i = m} (omega (arith, ltb-false _ _ k)), drop_of_length-le s {i = n} (omega (arith, ltb-false _ _ k)))
+
 -- ---- what is kept, by where the `size` bytes from `at` on lie
 
 module _ (old out : List ℕ) (at size : ℕ) where
-  pub kept_whole : length out ≤ at → kept old out at size ≡ starts old out
-  unfolding kept starts
-  kept_whole h = rw (take_all at out h, drop_of_length-le out {i = at + size} (omega arith)) (go (starts old out))
-    where
-      go : (t : Bool) → cond t true false ≡ t
-      go true = refl
-      go false = refl
-
   pub kept_not : starts old (take at out) ≡ false → kept old out at size ≡ false
   unfolding kept
   kept_not e = rw e
-
-  pub kept_front : starts old (take at out) ≡ true → length out ≤ at + size → kept old out at size ≡ true
-  unfolding kept starts
-  kept_front e h = rw (e, drop_of_length-le out h)
-
-  pub kept-short :
-      starts old (take at out) ≡ true → length old ≤ at + size → at + size < length out → kept old out at size ≡ false
-  unfolding kept starts
-  kept-short e h l = rw (e, drop_of_length-le old h, drop-cons out (at + size) 0)
 
   pub kept-both :
       starts old (take at out) ≡ true → kept old out at size ≡ starts (drop (at + size) old) (drop (at + size) out)

@@ -2,7 +2,7 @@
 ghost use Rattle.std.specs.Prelude.{◌≡◌, ◌+◌, length};
 ghost use Rattle.telling.specs.Trying.{pattern_at, filled, kept};
 
-use crate::lines::starts_with;
+use crate::lines::{after, before, starts_with};
 use crate::text::say;
 
 // What stands at a place before a call: aa to e9, no two neighbours alike; turned, what adds up to 255 with that.
@@ -16,10 +16,8 @@ pub fn pattern(i: usize, turned: bool) -> u8
 pub fn fill(out: &mut [u8], turned: bool)
     ensures { out.new ≡ filled turned (length out.old) }
 {
-    let mut i = 0;
-    while i < out.len() {
-        out[i] = pattern(i, turned);
-        i += 1;
+    for (i, byte) in out.iter_mut().enumerate() {
+        *byte = pattern(i, turned);
     }
 }
 
@@ -27,20 +25,8 @@ pub fn fill(out: &mut [u8], turned: bool)
 pub fn is_kept(old: &[u8], out: &[u8], at: usize, size: usize) -> bool
     ensures { result ≡ kept old.now out.now at size }
 {
-    if out.len() <= at {
-        return starts_with(old, out);
-    }
-    if !starts_with(old, &out[..at]) {
-        return false;
-    }
-    if out.len() - at <= size {
-        return true;
-    }
-    let end = at + size;
-    if old.len() < end {
-        return false;
-    }
-    starts_with(&old[end..], &out[end..])
+    let end = at.saturating_add(size);
+    starts_with(old, before(out, at)) && starts_with(after(old, end), after(out, end))
 }
 
 // Ends the line of a call, and says where it changed what it had to keep.

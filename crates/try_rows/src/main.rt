@@ -13,7 +13,7 @@
 // begins with `?`.
 #![tactic(auto)]
 
-use fields::Answer;
+use fields::{Answer, Fault};
 use telling::{end_line, is_kept, number_at, say, say_line, starts_with};
 
 // The program's own buffers: a row of 16,384 words and a pool of 65,536 bytes fit, and some more, so that both can be passed.
@@ -56,16 +56,11 @@ fn say_written(rt: &HostRuntime, size: usize, old: &[u8], out: &[u8], at: usize)
 
 // The row given to the writer of its kind.
 fn write(row: &[u32], pool: &[u8], out: &mut [u8], at: usize) -> Answer {
-    let kind = fields::kind_of(row);
-    if 256 <= kind {
-        return canonicals::write(row, pool, out, at);
-    }
-    match kind {
+    match fields::kind_of(row) {
         17 => imports::write(row, pool, out, at),
-        18 => instances::write_core(row, pool, out, at),
-        19 => instances::write(row, pool, out, at),
-        20 => instances::write_core(row, pool, out, at),
-        21 => instances::write(row, pool, out, at),
+        18 | 20 => instances::write_core(row, pool, out, at),
+        19 | 21 => instances::write(row, pool, out, at),
+        256.. => canonicals::write(row, pool, out, at),
         _ => types::write(row, pool, out, at),
     }
 }
@@ -75,8 +70,8 @@ fn try_row(rt: &HostRuntime, row: &[u32], pool: &[u8], out: &mut [u8], at: usize
     telling::fill(&mut old, false);
     telling::fill(out, false);
     match write(row, pool, out, at) {
-        Answer::Size(size) => say_written(rt, size, &old, out, at),
-        Answer::Refused(why, value) => {
+        Ok(size) => say_written(rt, size, &old, out, at),
+        Err(Fault { why, value }) => {
             telling::say_refusal(rt, why, value);
             end_line(rt, is_kept(&old, out, 0, 0));
         }
@@ -92,21 +87,19 @@ fn try_words(
     out: &mut [u8],
     set: Setting,
 ) {
-    let size = set.pool;
-    let room = set.room;
-    if row.len() < words {
+    let Some(row) = row.get(..words) else {
         say_line(rt, b"? too many words");
         return;
-    }
-    if pool.len() < size {
+    };
+    let Some(pool) = pool.get(..set.pool) else {
         say_line(rt, b"? too long a pool");
         return;
-    }
-    if out.len() < room {
+    };
+    let Some(out) = out.get_mut(..set.room) else {
         say_line(rt, b"? too much room");
         return;
-    }
-    try_row(rt, &row[..words], &pool[..size], &mut out[..room], set.at);
+    };
+    try_row(rt, row, pool, out, set.at);
 }
 
 // The row of `long`: a kind, and zeros up to a number of words.
@@ -119,27 +112,22 @@ fn try_long(rt: &HostRuntime, line: &[u8], pool: &[u8], out: &mut [u8], set: Set
 
 fn command_of(line: &[u8]) -> Command {
     if starts_with(line, b"#") {
-        return Command::Label;
+        Command::Label
+    } else if starts_with(line, b"pool ") {
+        Command::Pool
+    } else if starts_with(line, b"pool-size ") {
+        Command::PoolSize
+    } else if starts_with(line, b"room ") {
+        Command::Room
+    } else if starts_with(line, b"at ") {
+        Command::At
+    } else if starts_with(line, b"row") {
+        Command::Row
+    } else if starts_with(line, b"long ") {
+        Command::Long
+    } else {
+        Command::Other
     }
-    if starts_with(line, b"pool ") {
-        return Command::Pool;
-    }
-    if starts_with(line, b"pool-size ") {
-        return Command::PoolSize;
-    }
-    if starts_with(line, b"room ") {
-        return Command::Room;
-    }
-    if starts_with(line, b"at ") {
-        return Command::At;
-    }
-    if starts_with(line, b"row") {
-        return Command::Row;
-    }
-    if starts_with(line, b"long ") {
-        return Command::Long;
-    }
-    Command::Other
 }
 
 // Does what a line says, and answers what is set from there on.
@@ -158,11 +146,11 @@ fn obey(
         }
         Command::Pool => {
             let size = telling::size_after(line, 5);
-            numbers::copy(numbers::part(line, 5, size), 0, pool);
+            let _ = numbers::copy(numbers::part(line, 5, size), 0, pool);
             next.pool = size;
         }
         Command::PoolSize => {
-            numbers::copy(&[b'a'; POOL], 0, pool);
+            let _ = numbers::copy(&[b'a'; POOL], 0, pool);
             next.pool = number_at(line, 0);
         }
         Command::Room => {
@@ -190,18 +178,16 @@ fn run(rt: &HostRuntime, input: &[u8], row: &mut [u32], pool: &mut [u8], out: &m
         room: 0,
         at: 0,
     };
-    let mut from = 0;
-    while from < input.len() {
-        let end = telling::next_of(input, from, b'\n');
-        set = obey(rt, &input[from..end], set, row, pool, out);
-        from = end + 1;
+    for line in input.split_inclusive(|b| *b == b'\n') {
+        let line = line.strip_suffix(b"\n").unwrap_or(line);
+        set = obey(rt, line, set, row, pool, out);
     }
 }
 
 fn main(rt: HostRuntime) {
     let mut input = [0u8; 65536];
     let n = telling::read_full(&rt, &mut input);
-    if n == 65536 {
+    if n == input.len() {
         say_line(&rt, b"? too long an input");
         return;
     }

@@ -22,7 +22,7 @@
 // or passes the program's own buffers, is a line that begins with `?`.
 #![tactic(auto)]
 
-use fields::Answer;
+use fields::{Answer, Fault};
 use sections::{Phase, Section, Turned};
 use telling::{is_kept, number_at, say, say_field, say_line, starts_with, word, word_of};
 
@@ -81,8 +81,7 @@ fn phase_number(phase: Phase) -> u64 {
 fn start_of(phase: Phase) -> usize {
     match phase {
         Phase::Closed => 0,
-        Phase::Opened(start) => start,
-        Phase::Headed(start) => start,
+        Phase::Opened(start) | Phase::Headed(start) => start,
     }
 }
 
@@ -97,7 +96,7 @@ fn say_state(rt: &HostRuntime, section: Section) {
 
 // The bytes that a step shows, if there are any.
 fn say_shown(rt: &HostRuntime, bytes: &[u8]) {
-    if 0 < bytes.len() {
+    if !bytes.is_empty() {
         say(rt, b" ");
         telling::say_bytes(rt, bytes);
     }
@@ -106,51 +105,17 @@ fn say_shown(rt: &HostRuntime, bytes: &[u8]) {
 // The line of a step: its answer, the state it leaves, and the bytes it shows if it was taken.
 fn say_step(rt: &HostRuntime, answer: Answer, section: Section, shown: &[u8], kept: bool) {
     match answer {
-        Answer::Size(size) => {
+        Ok(size) => {
             say_field(rt, b"ok ", size as u64);
             say_state(rt, section);
             say_shown(rt, shown);
         }
-        Answer::Refused(why, value) => {
+        Err(Fault { why, value }) => {
             telling::say_refusal(rt, why, value);
             say_state(rt, section);
         }
     }
     telling::end_line(rt, kept);
-}
-
-fn is_same(a: Section, b: Section) -> bool {
-    let one = a.phase;
-    let two = b.phase;
-    if a.family != b.family {
-        return false;
-    }
-    if a.used != b.used {
-        return false;
-    }
-    if a.count != b.count {
-        return false;
-    }
-    if phase_number(one) != phase_number(two) {
-        return false;
-    }
-    start_of(one) == start_of(two)
-}
-
-// How many bytes an answer counts.
-fn size_in(answer: Answer) -> usize {
-    match answer {
-        Answer::Size(size) => size,
-        Answer::Refused(_, _) => 0,
-    }
-}
-
-// Whether the state is the same, as it has to be after a refusal.
-fn is_state_kept(answer: Answer, before: Section, after: Section) -> bool {
-    match answer {
-        Answer::Size(_) => true,
-        Answer::Refused(_, _) => is_same(before, after),
-    }
 }
 
 // The step taken.
@@ -174,12 +139,14 @@ fn try_step(
     body: &mut [u8],
 ) -> Section {
     let mut old = [0u8; BODY];
-    numbers::copy(body, 0, &mut old);
-    let turned = take(step, section, words, pool, body);
-    let next = turned.section;
-    let answer = turned.answer;
-    let kept = is_kept(&old, body, section.used, size_in(answer))
-        && is_state_kept(answer, section, next);
+    let _ = numbers::copy(body, 0, &mut old);
+    let Turned {
+        section: next,
+        answer,
+    } = take(step, section, words, pool, body);
+    // After a refusal the state has to be the same.
+    let kept = is_kept(&old, body, section.used, answer.unwrap_or(0))
+        && (answer.is_ok() || section == next);
     say_step(rt, answer, next, numbers::part(body, 0, next.used), kept);
     next
 }
@@ -194,11 +161,13 @@ fn try_words(
     pool: &[u8],
     body: &mut [u8],
 ) -> Section {
-    if words.len() < n {
-        say_line(rt, b"? too many words");
-        return section;
+    match words.get(..n) {
+        Some(words) => try_step(rt, step, section, words, pool, body),
+        None => {
+            say_line(rt, b"? too many words");
+            section
+        }
     }
-    try_step(rt, step, section, &words[..n], pool, body)
 }
 
 // The step with the words of a line.
@@ -248,7 +217,7 @@ fn try_out(rt: &HostRuntime, section: Section, body: &[u8], out: &mut [u8]) {
     telling::fill(&mut old, false);
     telling::fill(out, false);
     let answer = section.finish(body, out);
-    let size = size_in(answer);
+    let size = answer.unwrap_or(0);
     say_step(
         rt,
         answer,
@@ -260,11 +229,12 @@ fn try_out(rt: &HostRuntime, section: Section, body: &[u8], out: &mut [u8]) {
 
 // Finishes into the first `room` bytes of a buffer.
 fn try_room(rt: &HostRuntime, section: Section, body: &[u8], room: usize, out: &mut [u8]) {
-    if out.len() < room {
-        say_line(rt, b"? too much room");
-        return;
+    match out.get_mut(..room) {
+        Some(out) => try_out(rt, section, body, out),
+        None => {
+            say_line(rt, b"? too much room");
+        }
     }
-    try_out(rt, section, body, &mut out[..room]);
 }
 
 // Finishes into a buffer of as many bytes as a line says.
@@ -293,55 +263,44 @@ fn state_of(line: &[u8]) -> Section {
 
 fn step_of(line: &[u8]) -> Command {
     if starts_with(line, b"row") {
-        return Command::Take(Step::Row);
+        Command::Take(Step::Row)
+    } else if starts_with(line, b"open") {
+        Command::Take(Step::Open)
+    } else if starts_with(line, b"head") {
+        Command::Take(Step::Head)
+    } else if starts_with(line, b"result ") {
+        Command::Take(Step::Result)
+    } else if starts_with(line, b"abandon") {
+        Command::Take(Step::Abandon)
+    } else if starts_with(line, b"long ") {
+        Command::Long
+    } else if starts_with(line, b"long-head ") {
+        Command::LongHead
+    } else if starts_with(line, b"finish ") {
+        Command::Finish
+    } else {
+        Command::Other
     }
-    if starts_with(line, b"open") {
-        return Command::Take(Step::Open);
-    }
-    if starts_with(line, b"head") {
-        return Command::Take(Step::Head);
-    }
-    if starts_with(line, b"result ") {
-        return Command::Take(Step::Result);
-    }
-    if starts_with(line, b"abandon") {
-        return Command::Take(Step::Abandon);
-    }
-    if starts_with(line, b"long ") {
-        return Command::Long;
-    }
-    if starts_with(line, b"long-head ") {
-        return Command::LongHead;
-    }
-    if starts_with(line, b"finish ") {
-        return Command::Finish;
-    }
-    Command::Other
 }
 
 fn command_of(line: &[u8]) -> Command {
     if starts_with(line, b"#") {
-        return Command::Label;
+        Command::Label
+    } else if starts_with(line, b"pool ") {
+        Command::Pool
+    } else if starts_with(line, b"pool-size ") {
+        Command::PoolSize
+    } else if starts_with(line, b"body ") {
+        Command::Body
+    } else if starts_with(line, b"grow ") {
+        Command::Grow
+    } else if starts_with(line, b"state ") {
+        Command::State
+    } else if starts_with(line, b"new ") {
+        Command::New
+    } else {
+        step_of(line)
     }
-    if starts_with(line, b"pool ") {
-        return Command::Pool;
-    }
-    if starts_with(line, b"pool-size ") {
-        return Command::PoolSize;
-    }
-    if starts_with(line, b"body ") {
-        return Command::Body;
-    }
-    if starts_with(line, b"grow ") {
-        return Command::Grow;
-    }
-    if starts_with(line, b"state ") {
-        return Command::State;
-    }
-    if starts_with(line, b"new ") {
-        return Command::New;
-    }
-    step_of(line)
 }
 
 // Takes the step that a line names, beside that pool and over that body, and answers the state it leaves.
@@ -378,18 +337,15 @@ fn act(
     pool: &[u8],
     body: &mut [u8],
 ) -> Section {
-    let section = set.section;
-    let size = set.pool;
-    let room = set.body;
-    if pool.len() < size {
+    let Some(pool) = pool.get(..set.pool) else {
         say_line(rt, b"? too long a pool");
-        return section;
-    }
-    if body.len() < room {
+        return set.section;
+    };
+    let Some(body) = body.get_mut(..set.body) else {
         say_line(rt, b"? too long a body");
-        return section;
-    }
-    act_on(rt, command, line, section, &pool[..size], &mut body[..room])
+        return set.section;
+    };
+    act_on(rt, command, line, set.section, pool, body)
 }
 
 // Does what a line says, and answers what is set from there on.
@@ -402,11 +358,11 @@ fn obey(rt: &HostRuntime, line: &[u8], set: Setting, pool: &mut [u8], body: &mut
         }
         Command::Pool => {
             let size = telling::size_after(line, 5);
-            numbers::copy(numbers::part(line, 5, size), 0, pool);
+            let _ = numbers::copy(numbers::part(line, 5, size), 0, pool);
             next.pool = size;
         }
         Command::PoolSize => {
-            numbers::copy(&[b'a'; POOL], 0, pool);
+            let _ = numbers::copy(&[b'a'; POOL], 0, pool);
             next.pool = number_at(line, 0);
         }
         Command::Body => {
@@ -436,18 +392,16 @@ fn run(rt: &HostRuntime, input: &[u8], pool: &mut [u8], body: &mut [u8]) {
         body: 0,
         section: Section::new(7),
     };
-    let mut from = 0;
-    while from < input.len() {
-        let end = telling::next_of(input, from, b'\n');
-        set = obey(rt, &input[from..end], set, pool, body);
-        from = end + 1;
+    for line in input.split_inclusive(|b| *b == b'\n') {
+        let line = line.strip_suffix(b"\n").unwrap_or(line);
+        set = obey(rt, line, set, pool, body);
     }
 }
 
 fn main(rt: HostRuntime) {
     let mut input = [0u8; 65536];
     let n = telling::read_full(&rt, &mut input);
-    if n == 65536 {
+    if n == input.len() {
         say_line(&rt, b"? too long an input");
         return;
     }

@@ -1,7 +1,9 @@
 // An entry in plain words. `words` are those of its row from some place on, and `entry` is its bytes, in which the row names its strings.
-use crate::parts::{last_two, plus, words_after};
+ghost use Rattle.std.specs.Prelude.{◌<◌};
+
+use crate::parts::after;
 use crate::print::say_quoted;
-use telling::{say, word};
+use telling::{say, say_field, word};
 
 // What a counted kind repeats.
 #[derive(Clone, Copy)]
@@ -14,6 +16,18 @@ enum Unit {
     Case,
 }
 
+impl Unit {
+    // How many words it has.
+    fn width(self) -> usize
+        ensures { 0 < result }
+    {
+        match self {
+            Unit::Name | Unit::Value => 2,
+            Unit::Member | Unit::Case => 4,
+        }
+    }
+}
+
 // Document 01's N.
 fn say_name(rt: &HostRuntime, words: &[u32], entry: &[u8]) {
     let start = word(words, 0) as usize;
@@ -22,35 +36,35 @@ fn say_name(rt: &HostRuntime, words: &[u32], entry: &[u8]) {
 }
 
 // The primitives by their numbers. Here and below the reader's rows have no other number than those named, so `?` is never printed.
-fn say_primitive(rt: &HostRuntime, p: u32) -> usize {
-    match p {
-        0 => say(rt, b"bool"),
-        1 => say(rt, b"s8"),
-        2 => say(rt, b"u8"),
-        3 => say(rt, b"s16"),
-        4 => say(rt, b"u16"),
-        5 => say(rt, b"s32"),
-        6 => say(rt, b"u32"),
-        7 => say(rt, b"s64"),
-        8 => say(rt, b"u64"),
-        9 => say(rt, b"f32"),
-        10 => say(rt, b"f64"),
-        11 => say(rt, b"char"),
-        12 => say(rt, b"string"),
-        13 => say(rt, b"error-context"),
-        _ => say(rt, b"?"),
+fn name_of(primitive: u32) -> &'static [u8] {
+    match primitive {
+        0 => b"bool",
+        1 => b"s8",
+        2 => b"u8",
+        3 => b"s16",
+        4 => b"u16",
+        5 => b"s32",
+        6 => b"u32",
+        7 => b"s64",
+        8 => b"u64",
+        9 => b"f32",
+        10 => b"f64",
+        11 => b"char",
+        12 => b"string",
+        13 => b"error-context",
+        _ => b"?",
     }
 }
 
 fn say_index(rt: &HostRuntime, before: &[u8], index: u32) {
-    telling::say_field(rt, before, index as u64);
+    say_field(rt, before, u64::from(index));
 }
 
 // Document 01's V.
 fn say_value(rt: &HostRuntime, before: &[u8], words: &[u32]) {
     say(rt, before);
     if word(words, 0) == 0 {
-        say_primitive(rt, word(words, 1));
+        say(rt, name_of(word(words, 1)));
     } else {
         say_index(rt, b"type ", word(words, 1));
     }
@@ -69,30 +83,12 @@ fn say_unit(rt: &HostRuntime, unit: Unit, words: &[u32], entry: &[u8]) {
         Unit::Value => say_value(rt, b"", words),
         Unit::Member => {
             say_name(rt, words, entry);
-            say_value(rt, b": ", words_after(words, 2));
+            say_value(rt, b": ", after(words, 2));
         }
         Unit::Case => {
             say_name(rt, words, entry);
-            say_optional(rt, b": ", words_after(words, 2));
+            say_optional(rt, b": ", after(words, 2));
         }
-    }
-}
-
-// How many words a unit has.
-fn width(unit: Unit) -> usize {
-    match unit {
-        Unit::Name => 2,
-        Unit::Value => 2,
-        Unit::Member => 4,
-        Unit::Case => 4,
-    }
-}
-
-fn say_between(rt: &HostRuntime, before: usize, first: &[u8]) {
-    if before == 0 {
-        say(rt, first);
-    } else {
-        say(rt, b", ");
     }
 }
 
@@ -107,19 +103,16 @@ fn say_counted(
 ) {
     say(rt, kind);
     let count = word(words, 0) as usize;
-    let mut at = 1;
-    let mut i = 0;
-    while i < count {
-        say_between(rt, i, first);
-        say_unit(rt, unit, words_after(words, at), entry);
-        at = plus(at, width(unit));
-        i += 1;
+    let units = after(words, 1).chunks_exact(unit.width());
+    for (i, words) in units.take(count).enumerate() {
+        say(rt, if i == 0 { first } else { b", " });
+        say_unit(rt, unit, words, entry);
     }
 }
 
 fn say_map(rt: &HostRuntime, words: &[u32]) {
     say_value(rt, b"map ", words);
-    say_value(rt, b" to ", words_after(words, 2));
+    say_value(rt, b" to ", after(words, 2));
 }
 
 fn say_fixed_list(rt: &HostRuntime, words: &[u32]) {
@@ -130,7 +123,7 @@ fn say_fixed_list(rt: &HostRuntime, words: &[u32]) {
 fn say_result(rt: &HostRuntime, words: &[u32]) {
     say(rt, b"result");
     say_optional(rt, b" ", words);
-    say_optional(rt, b", error ", words_after(words, 2));
+    say_optional(rt, b", error ", after(words, 2));
 }
 
 fn say_maybe_of(rt: &HostRuntime, kind: &[u8], words: &[u32]) {
@@ -142,24 +135,17 @@ fn say_function(rt: &HostRuntime, words: &[u32], entry: &[u8]) {
     if word(words, 0) == 1 {
         say(rt, b"async ");
     }
-    say_counted(
-        rt,
-        b"function (",
-        Unit::Member,
-        b"",
-        words_after(words, 1),
-        entry,
-    );
+    say_counted(rt, b"function (", Unit::Member, b"", after(words, 1), entry);
     say(rt, b")");
-    say_optional(rt, b" -> ", last_two(words));
+    if let Some(outcome) = words.last_chunk::<2>() {
+        say_optional(rt, b" -> ", outcome);
+    }
 }
 
 fn say_resource(rt: &HostRuntime, words: &[u32]) {
-    if word(words, 0) == 0 {
-        say(rt, b"resource i32");
-    } else {
-        say(rt, b"resource i64");
-    }
+    let form = if word(words, 0) == 0 { b"i32" } else { b"i64" };
+    say(rt, b"resource ");
+    say(rt, form);
     if word(words, 1) == 1 {
         say_index(rt, b", destructor function ", word(words, 2));
     }
@@ -168,7 +154,7 @@ fn say_resource(rt: &HostRuntime, words: &[u32]) {
 fn say_option(rt: &HostRuntime, before: &[u8], words: &[u32], entry: &[u8]) {
     if word(words, 0) == 1 {
         say(rt, before);
-        say_name(rt, words_after(words, 1), entry);
+        say_name(rt, after(words, 1), entry);
     }
 }
 
@@ -184,8 +170,8 @@ fn say_reference(rt: &HostRuntime, words: &[u32]) {
     match word(words, 0) {
         0 => say_index(rt, b"module ", word(words, 1)),
         1 => say_index(rt, b"function ", word(words, 1)),
-        2 => say_value(rt, b"value ", words_after(words, 1)),
-        3 => say_type_bound(rt, words_after(words, 1)),
+        2 => say_value(rt, b"value ", after(words, 1)),
+        3 => say_type_bound(rt, after(words, 1)),
         4 => say_index(rt, b"component ", word(words, 1)),
         5 => say_index(rt, b"instance ", word(words, 1)),
         _ => {
@@ -197,18 +183,18 @@ fn say_reference(rt: &HostRuntime, words: &[u32]) {
 fn say_import(rt: &HostRuntime, words: &[u32], entry: &[u8]) {
     say(rt, b"import ");
     say_name(rt, words, entry);
-    say_option(rt, b" implements ", words_after(words, 2), entry);
-    say_option(rt, b", version suffix ", words_after(words, 5), entry);
-    say_option(rt, b", external id ", words_after(words, 8), entry);
+    say_option(rt, b" implements ", after(words, 2), entry);
+    say_option(rt, b", version suffix ", after(words, 5), entry);
+    say_option(rt, b", external id ", after(words, 8), entry);
     say(rt, b": ");
-    say_reference(rt, words_after(words, 11));
+    say_reference(rt, after(words, 11));
 }
 
 // The words after the kind, as document 01 lays them out for it.
 fn say_kind(rt: &HostRuntime, kind: u32, words: &[u32], entry: &[u8]) {
     match kind {
         0 => {
-            say_primitive(rt, word(words, 0));
+            say(rt, name_of(word(words, 0)));
         }
         1 => say_counted(rt, b"record", Unit::Member, b" ", words, entry),
         2 => say_counted(rt, b"variant", Unit::Case, b" ", words, entry),
@@ -235,5 +221,5 @@ fn say_kind(rt: &HostRuntime, kind: u32, words: &[u32], entry: &[u8]) {
 
 // The row of an entry.
 pub fn say_row(rt: &HostRuntime, row: &[u32], entry: &[u8]) {
-    say_kind(rt, word(row, 0), words_after(row, 1), entry);
+    say_kind(rt, word(row, 0), after(row, 1), entry);
 }

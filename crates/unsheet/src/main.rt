@@ -15,15 +15,12 @@
 mod entry;
 mod parts;
 mod print;
-mod runs;
 mod section;
 
-ghost use Rattle.std.specs.Prelude.{◌≡◌, ◌<◌, length};
+ghost use Rattle.std.specs.Prelude.{◌≡◌, ◌<◌, length, IfSome};
 
 use fields::ROW_WORDS;
-use parts::{after, plus};
 use print::say_limit;
-use runs::{Sort, is_all, is_blank, run_end};
 use section::show_section;
 use std::env::{Env, FillError};
 use telling::{say, say_line, starts_with};
@@ -37,156 +34,150 @@ fn room() -> [u8; 1048577]
     [0; 1048577]
 }
 
-// A grade's text as a number, 0 for any other.
-fn grade_of(text: &[u8]) -> u32 {
-    if text.len() != 1 {
-        return 0;
-    }
-    match text[0] {
-        b'1' => 1,
-        b'2' => 2,
-        b'3' => 3,
-        _ => 0,
+// A line ends at either byte, so that no printed line holds a carriage return.
+fn is_line_end(b: u8) -> bool {
+    b == b'\n' || b == b'\r'
+}
+
+fn is_blank(b: u8) -> bool {
+    b == b' ' || b == b'\t'
+}
+
+// Printable ASCII, a tab, or a line's end.
+fn is_text(b: u8) -> bool {
+    matches!(b, b' '..=b'~') || b == b'\t' || is_line_end(b)
+}
+
+// A grade's text as a number.
+fn grade_of(text: &[u8]) -> Option<u32> {
+    match text {
+        b"1" => Some(1),
+        b"2" => Some(2),
+        b"3" => Some(3),
+        _ => None,
     }
 }
 
 // The program's argument as a grade.
-fn asked_grade(rt: &HostRuntime) -> u32 {
+fn asked_grade(rt: &HostRuntime) -> Option<u32> {
     let mut text = [0u8; 2];
-    match rt.arg(1, &mut text) {
-        Ok(n) => grade_of(&text[..n]),
-        Err(_) => 0,
-    }
+    let n = rt.arg(1, &mut text).ok()?;
+    grade_of(&text[..n])
 }
 
 // Whether the program was started with an argument at that place.
 fn has_argument(rt: &HostRuntime, i: usize) -> bool {
     let mut text = [0u8; 1];
-    match rt.arg(i, &mut text) {
-        Ok(_) => true,
-        Err(FillError::TooLong) => true,
-        Err(FillError::NotPresent) => false,
-    }
+    !matches!(rt.arg(i, &mut text), Err(FillError::NotPresent))
 }
 
-// The grade that the program is started with, 0 where its arguments are not one grade.
-fn first_grade(rt: &HostRuntime) -> u32 {
+// The grade that the program is started with, if its arguments are one grade.
+fn first_grade(rt: &HostRuntime) -> Option<u32> {
     if !has_argument(rt, 1) {
-        return 3;
+        Some(3)
+    } else if has_argument(rt, 2) {
+        None
+    } else {
+        asked_grade(rt)
     }
-    if has_argument(rt, 2) {
-        return 0;
-    }
-    asked_grade(rt)
 }
 
 // The value of a hexadecimal digit.
-fn value_of(digit: u8) -> u8
-    ensures { result < 16 }
+fn value_of(digit: u8) -> Option<u8>
+    ensures { IfSome result (λ value. value < 16) }
 {
-    if digit < b'A' {
-        return digit % 16;
-    }
-    (digit % 16 + 9) % 16
-}
-
-// A byte with one of its two digits set: the upper, with the lower 0, or the lower.
-fn with_digit(byte: u8, digit: u8, is_upper: bool) -> u8 {
-    let value = value_of(digit);
-    if is_upper {
-        value * 16
-    } else {
-        byte / 16 * 16 + value
+    match digit {
+        b'0'..=b'9' => Some(digit - b'0'),
+        b'a'..=b'f' => Some(digit - b'a' + 10),
+        b'A'..=b'F' => Some(digit - b'A' + 10),
+        _ => None,
     }
 }
 
-// A digit more after `count` of them.
-fn put_digit(digit: u8, count: usize, bytes: &mut [u8]) {
-    let i = count / 2;
-    if i < bytes.len() {
-        bytes[i] = with_digit(bytes[i], digit, count % 2 == 0);
+// A digit more after `count` of them: an upper one sets its byte, with the lower 0.
+fn put_digit(value: u8, count: usize, bytes: &mut [u8])
+    requires { value < 16 }
+{
+    if let Some(byte) = bytes.get_mut(count / 2) {
+        *byte = if count % 2 == 0 {
+            value * 16
+        } else {
+            *byte / 16 * 16 + value
+        };
     }
 }
 
-// How many digits stand in the bytes after one byte of text more.
-fn with_byte(byte: u8, count: usize, bytes: &mut [u8]) -> usize {
-    if is_blank(byte) {
-        return count;
-    }
-    put_digit(byte, count, bytes);
-    plus(count, 1)
-}
-
-// The digits of a text, put into the bytes: how many.
-fn digits_of(text: &[u8], bytes: &mut [u8]) -> usize {
+// The bytes of a text in hexadecimal, put to the front of `bytes`: how many, if the text is nothing else.
+fn bytes_of(text: &[u8], bytes: &mut [u8]) -> Option<usize> {
     let mut count = 0;
-    let mut i = 0;
-    while i < text.len() {
-        count = with_byte(text[i], count, bytes);
-        i += 1;
+    for byte in text {
+        if !is_blank(*byte) {
+            put_digit(value_of(*byte)?, count, bytes);
+            count += 1;
+        }
     }
-    count
-}
-
-fn say_other(rt: &HostRuntime, line: &[u8]) {
-    say(rt, b"not bytes in hexadecimal: ");
-    say_line(rt, line);
+    (count % 2 == 0).then_some(count / 2)
 }
 
 fn show_digits(
     rt: &HostRuntime,
     line: &[u8],
     text: &[u8],
-    grade: u32,
+    grade: Option<u32>,
     bytes: &mut [u8],
     row: &mut [u32],
 ) {
-    if !is_all(text, Sort::Digits) {
-        return say_other(rt, line);
-    }
-    let count = digits_of(text, bytes);
-    if count % 2 != 0 {
-        return say_other(rt, line);
-    }
-    if 0 < count {
-        show_section(rt, numbers::part(bytes, 0, count / 2), grade, row);
+    match bytes_of(text, bytes) {
+        Some(0) => {}
+        Some(n) => show_section(rt, numbers::part(bytes, 0, n), grade, row),
+        None => {
+            say(rt, b"not bytes in hexadecimal: ");
+            say_line(rt, line);
+        }
     }
 }
 
 // What a line says, shown at a grade, and the grade behind it.
-fn show_line(rt: &HostRuntime, line: &[u8], grade: u32, bytes: &mut [u8], row: &mut [u32]) -> u32 {
+fn show_line(
+    rt: &HostRuntime,
+    line: &[u8],
+    grade: Option<u32>,
+    bytes: &mut [u8],
+    row: &mut [u32],
+) -> Option<u32> {
     if starts_with(line, b"#") {
         say_line(rt, line);
         return grade;
     }
-    if starts_with(line, b"grade ") {
+    if let Some(text) = line.strip_prefix(b"grade ") {
         say_line(rt, line);
-        return grade_of(after(line, 6));
+        return grade_of(text);
     }
-    if starts_with(line, b"ok ") {
-        show_digits(rt, line, after(line, 3), grade, bytes, row);
-        return grade;
-    }
-    show_digits(rt, line, line, grade, bytes, row);
+    let text = line.strip_prefix(b"ok ").unwrap_or(line);
+    show_digits(rt, line, text, grade, bytes, row);
     grade
 }
 
-fn show_lines(rt: &HostRuntime, input: &[u8], first: u32, bytes: &mut [u8], row: &mut [u32]) {
+fn show_lines(
+    rt: &HostRuntime,
+    input: &[u8],
+    first: Option<u32>,
+    bytes: &mut [u8],
+    row: &mut [u32],
+) {
     let mut grade = first;
-    let mut from = 0;
-    while from < input.len() {
-        let end = run_end(input, from, Sort::Line);
-        grade = show_line(rt, &input[from..end], grade, bytes, row);
-        from = end + 1;
+    for line in input.split(|b| is_line_end(*b)) {
+        grade = show_line(rt, line, grade, bytes, row);
     }
 }
 
 fn show(rt: &HostRuntime, input: &[u8], bytes: &mut [u8], row: &mut [u32]) {
     let grade = first_grade(rt);
-    if is_all(input, Sort::Text) {
-        return show_lines(rt, input, grade, bytes, row);
+    if input.iter().all(|b| is_text(*b)) {
+        show_lines(rt, input, grade, bytes, row);
+    } else {
+        show_section(rt, input, grade, row);
     }
-    show_section(rt, input, grade, row);
 }
 
 fn main(rt: HostRuntime) {

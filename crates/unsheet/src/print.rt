@@ -1,25 +1,31 @@
 // What a line is made of beside text and numbers: names, places and refusals.
-use crate::runs::{Sort, run_end};
 use fields::Refusal;
-use telling::{say, say_field, say_line};
+use telling::{say, say_bytes, say_field, say_line};
 
-// The byte at a place as \xx; nothing at the end.
-fn say_escaped(rt: &HostRuntime, name: &[u8], at: usize) {
-    if at < name.len() {
-        say(rt, b"\\");
-        telling::say_bytes(rt, numbers::part(name, at, 1));
+// Printable ASCII, but for the quote and the backslash.
+fn is_plain(b: u8) -> bool {
+    matches!(b, b' '..=b'~') && b != b'"' && b != b'\\'
+}
+
+// A run of plain bytes, up to the first other byte, which is written as \xx.
+fn say_run(rt: &HostRuntime, run: &[u8]) {
+    match run {
+        [plain @ .., last] if !is_plain(*last) => {
+            say(rt, plain);
+            say(rt, b"\\");
+            say_bytes(rt, &[*last]);
+        }
+        _ => {
+            say(rt, run);
+        }
     }
 }
 
 // A name in quotes. Every byte but a plain one is escaped, so that no name can end its quotes or its line, or look like another.
 pub fn say_quoted(rt: &HostRuntime, name: &[u8]) {
     say(rt, b"\"");
-    let mut from = 0;
-    while from < name.len() {
-        let end = run_end(name, from, Sort::Plain);
-        say(rt, &name[from..end]);
-        say_escaped(rt, name, end);
-        from = end + 1;
+    for run in name.split_inclusive(|b| !is_plain(*b)) {
+        say_run(rt, run);
     }
     say(rt, b"\"");
 }
@@ -27,7 +33,7 @@ pub fn say_quoted(rt: &HostRuntime, name: &[u8]) {
 // `refused NUMBER NAME`, and the number.
 fn say_refused(rt: &HostRuntime, why: Refusal) -> usize {
     let number = fields::number_of(why);
-    say_field(rt, b"refused ", number as u64);
+    say_field(rt, b"refused ", u64::from(number));
     say(rt, b" ");
     telling::say_name(rt, number as usize)
 }

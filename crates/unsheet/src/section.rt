@@ -1,9 +1,9 @@
 // A section: its head, a line for each entry, and what is wrong with it.
 use crate::entry::say_row;
-use crate::parts::{after, front, plus, words_front};
+use crate::parts::{after, front};
 use crate::print::{say_limit, say_place, say_refusal, say_room};
-use fields::{Read, Refusal};
-use numbers::Taken;
+use fields::{Extent, Fault, Read, Refusal};
+use numbers::{NoNumber, Number};
 use telling::{say, say_count};
 
 #[derive(Clone, Copy)]
@@ -12,39 +12,32 @@ enum Family {
     Imports,
 }
 
-// How far the entries could be shown.
-#[derive(Clone, Copy)]
-enum Shown {
-    // All, up to this place.
-    Up(usize),
-    // One was refused.
-    Stopped,
-}
-
-fn read(family: Family, entry: &[u8], grade: u32, row: &mut [u32]) -> Read {
-    match family {
-        Family::Types => items::read_type(entry, grade, row),
-        Family::Imports => items::read_import(entry, grade, row),
+impl Family {
+    fn read(self, entry: &[u8], grade: u32, row: &mut [u32]) -> Read {
+        match self {
+            Family::Types => items::read_type(entry, grade, row),
+            Family::Imports => items::read_import(entry, grade, row),
+        }
     }
-}
 
-fn say_family(rt: &HostRuntime, family: Family) -> usize {
-    match family {
-        Family::Types => say(rt, b"types: "),
-        Family::Imports => say(rt, b"imports: "),
+    fn title(self) -> &'static [u8] {
+        match self {
+            Family::Types => b"types: ",
+            Family::Imports => b"imports: ",
+        }
     }
 }
 
 // `types: 2 entries, 18 bytes`, which are those of the whole section, as its size says.
 fn say_head(rt: &HostRuntime, family: Family, count: u32, size: usize) {
-    say_family(rt, family);
-    say_count(rt, count as u64, b" entry, ", b" entries, ");
+    say(rt, family.title());
+    say_count(rt, u64::from(count), b" entry, ", b" entries, ");
     say_count(rt, size as u64, b" byte\n", b" bytes\n");
 }
 
 // `0 at 3, 5 bytes: ` and the entry.
 fn say_entry(rt: &HostRuntime, number: u32, at: usize, size: usize, row: &[u32], entry: &[u8]) {
-    telling::say_number(rt, number as u64);
+    telling::say_number(rt, u64::from(number));
     say_place(rt, at);
     say(rt, b", ");
     say_count(rt, size as u64, b" byte: ", b" bytes: ");
@@ -53,14 +46,15 @@ fn say_entry(rt: &HostRuntime, number: u32, at: usize, size: usize, row: &[u32],
 }
 
 // ROOM counts words; every other place counts from the entry's first byte.
-fn say_fault(rt: &HostRuntime, why: Refusal, at: usize, value: usize) {
+fn say_fault(rt: &HostRuntime, fault: Fault, at: usize) {
+    let Fault { why, value } = fault;
     match why {
         Refusal::Room => say_room(rt, at, value),
-        _ => say_refusal(rt, why, plus(at, value)),
+        _ => say_refusal(rt, why, at.saturating_add(value)),
     }
 }
 
-// The entry at a place, read from there to the section's end.
+// The entry at a place, read from there to the section's end: where it ends, or nothing where it is refused.
 fn show_entry(
     rt: &HostRuntime,
     section: &[u8],
@@ -69,20 +63,21 @@ fn show_entry(
     at: usize,
     grade: u32,
     row: &mut [u32],
-) -> Shown {
+) -> Option<usize> {
     let entry = after(section, at);
-    match read(family, entry, grade, row) {
-        Read::Item(words, size) => {
-            say_entry(rt, number, at, size, words_front(row, words), entry);
-            Shown::Up(plus(at, size))
+    match family.read(entry, grade, row) {
+        Ok(Extent { words, took: size }) => {
+            say_entry(rt, number, at, size, front(row, words), entry);
+            Some(at.saturating_add(size))
         }
-        Read::Refused(why, value) => {
-            say_fault(rt, why, at, value);
-            Shown::Stopped
+        Err(fault) => {
+            say_fault(rt, fault, at);
+            None
         }
     }
 }
 
+// The entries from a place on: where the last of them ends, or nothing where one is refused.
 fn show_entries(
     rt: &HostRuntime,
     section: &[u8],
@@ -91,32 +86,21 @@ fn show_entries(
     from: usize,
     grade: u32,
     row: &mut [u32],
-) -> Shown {
+) -> Option<usize> {
     let mut at = from;
-    let mut i = 0;
-    while i < count {
-        match show_entry(rt, section, family, i, at, grade, row) {
-            Shown::Up(next) => {
-                at = next;
-            }
-            Shown::Stopped => {
-                return Shown::Stopped;
-            }
-        }
-        i += 1;
+    for i in 0..count {
+        at = show_entry(rt, section, family, i, at, grade, row)?;
     }
-    Shown::Up(at)
+    Some(at)
 }
 
 // What is wrong behind the last entry: `held` of its `size` bytes are there, and the input has `given`.
 fn say_end(rt: &HostRuntime, at: usize, held: usize, size: usize, given: usize) {
     if at < held {
-        return say_refusal(rt, Refusal::Code, at);
-    }
-    if held < size {
-        return say_refusal(rt, Refusal::Cut, held);
-    }
-    if size < given {
+        say_refusal(rt, Refusal::Code, at);
+    } else if held < size {
+        say_refusal(rt, Refusal::Cut, held);
+    } else if size < given {
         say_refusal(rt, Refusal::Code, size);
     }
 }
@@ -133,38 +117,39 @@ fn show_counted(
 ) {
     let section = front(input, size);
     match numbers::take_unsigned(after(section, at)) {
-        Taken::Value(count, took) => {
+        Ok(Number { value: count, took }) => {
             say_head(rt, family, count, size);
-            match show_entries(rt, section, family, count, plus(at, took), grade, row) {
-                Shown::Up(end) => say_end(rt, end, section.len(), size, input.len()),
-                Shown::Stopped => {}
+            let from = at.saturating_add(took);
+            if let Some(end) = show_entries(rt, section, family, count, from, grade, row) {
+                say_end(rt, end, section.len(), size, input.len());
             }
         }
-        Taken::Cut => say_refusal(rt, Refusal::Cut, section.len()),
-        Taken::Bad => say_refusal(rt, Refusal::Number, at),
+        Err(NoNumber::Cut) => say_refusal(rt, Refusal::Cut, section.len()),
+        Err(NoNumber::Bad) => say_refusal(rt, Refusal::Number, at),
     }
 }
 
 // A section whose id is read.
 fn show_sized(rt: &HostRuntime, input: &[u8], family: Family, grade: u32, row: &mut [u32]) {
     match numbers::take_unsigned(after(input, 1)) {
-        Taken::Value(size, took) => {
-            let at = plus(1, took);
-            show_counted(rt, input, family, plus(at, size as usize), at, grade, row);
+        Ok(Number { value: size, took }) => {
+            let at = took.saturating_add(1);
+            let end = at.saturating_add(size as usize);
+            show_counted(rt, input, family, end, at, grade, row);
         }
-        Taken::Cut => say_refusal(rt, Refusal::Cut, input.len()),
-        Taken::Bad => say_refusal(rt, Refusal::Number, 1),
+        Err(NoNumber::Cut) => say_refusal(rt, Refusal::Cut, input.len()),
+        Err(NoNumber::Bad) => say_refusal(rt, Refusal::Number, 1),
     }
 }
 
-// A section by its id: 7 types, 10 imports.
-pub fn show_section(rt: &HostRuntime, input: &[u8], grade: u32, row: &mut [u32]) {
-    if grade < 1 || 3 < grade {
+// A section by its id, 7 types and 10 imports, at a grade; none is no grade.
+pub fn show_section(rt: &HostRuntime, input: &[u8], grade: Option<u32>, row: &mut [u32]) {
+    let Some(grade) = grade else {
         return say_limit(rt, b": grade is 1, 2 or 3");
-    }
-    match fields::first_of(input) {
-        7 => show_sized(rt, input, Family::Types, grade, row),
-        10 => show_sized(rt, input, Family::Imports, grade, row),
+    };
+    match input.first() {
+        Some(7) => show_sized(rt, input, Family::Types, grade, row),
+        Some(10) => show_sized(rt, input, Family::Imports, grade, row),
         _ => say_refusal(rt, Refusal::Code, 0),
     }
 }

@@ -14,7 +14,8 @@ mod list;
 mod tally;
 mod trial;
 
-use list::Next;
+use list::{Broken, Head};
+use tally::Tally;
 
 // The program's own buffers. A sheet may pass document 01's 65,536 bytes, and a row its 16,384 words.
 const ROOM: usize = 131072;
@@ -24,86 +25,42 @@ const WORDS: usize = 32768;
 // Lists are few; the bound is there so that the program ends whatever it reads.
 const LISTS: usize = 1000000;
 
-// Runs the next case, or answers false.
-fn run_case(
-    rt: &HostRuntime,
-    at: usize,
-    input: &mut [u8],
-    made: &mut [u8],
-    body: &mut [u8],
-    out: &mut [u8],
-    row: &mut [u32],
-    tally: &mut [u64; tally::SLOTS],
-) -> bool {
-    let mut head = [0u8; list::HEAD];
-    if !list::next_case(rt, &mut head, input, made) {
-        return false;
-    }
-    let case = list::case_of(&head);
-    let outcome = trial::try_case(case, input, made, body, out, row);
-    tally::say_difference(rt, at, case, outcome);
-    tally::count(tally, case.sort, outcome);
-    true
-}
-
-// Runs every case of a list.
+// Runs the cases of a list.
 fn run_cases(
     rt: &HostRuntime,
-    total: usize,
+    cases: usize,
     input: &mut [u8],
     made: &mut [u8],
     body: &mut [u8],
     out: &mut [u8],
     row: &mut [u32],
-    tally: &mut [u64; tally::SLOTS],
-) {
-    let mut i = 0;
-    while i < total {
-        if !run_case(rt, i, input, made, body, out, row, tally) {
-            return tally::say_broken(rt);
-        }
-        i += 1;
+    tally: &mut Tally,
+) -> Result<(), Broken> {
+    for i in 0..cases {
+        let case = list::next_case(rt, input, made)?;
+        let outcome = trial::try_case(case, input, made, body, out, row);
+        tally::say_difference(rt, i, case, outcome);
+        tally.add(case.sort, outcome);
     }
+    Ok(())
 }
 
 // Runs a list whose title stands at the front of the input, and tells how it went.
 fn run_list(
     rt: &HostRuntime,
-    title: usize,
-    total: usize,
+    head: Head,
     input: &mut [u8],
     made: &mut [u8],
     body: &mut [u8],
     out: &mut [u8],
     row: &mut [u32],
 ) {
-    let mut tally = [0u64; tally::SLOTS];
-    telling::say_line(rt, numbers::part(input, 0, title));
-    run_cases(rt, total, input, made, body, out, row, &mut tally);
-    tally::say_list(rt, &tally);
-}
-
-// Runs the next list, or answers false.
-fn run_next(
-    rt: &HostRuntime,
-    input: &mut [u8],
-    made: &mut [u8],
-    body: &mut [u8],
-    out: &mut [u8],
-    row: &mut [u32],
-) -> bool {
-    let next = list::next_list(rt, input);
-    match next {
-        Next::List(total, title) => {
-            run_list(rt, title, total, input, made, body, out, row);
-            true
-        }
-        Next::End => false,
-        Next::Broken => {
-            tally::say_broken(rt);
-            false
-        }
+    let mut tally = Tally::NONE;
+    telling::say_line(rt, numbers::part(input, 0, head.title));
+    if let Err(Broken) = run_cases(rt, head.cases, input, made, body, out, row, &mut tally) {
+        tally::say_broken(rt);
     }
+    tally.say(rt);
 }
 
 // Runs list after list, until the input ends.
@@ -115,12 +72,12 @@ fn run(
     out: &mut [u8],
     row: &mut [u32],
 ) {
-    let mut i = 0;
-    while i < LISTS {
-        if !run_next(rt, input, made, body, out, row) {
-            return;
+    for _ in 0..LISTS {
+        match list::next_list(rt, input) {
+            Ok(Some(head)) => run_list(rt, head, input, made, body, out, row),
+            Ok(None) => return,
+            Err(Broken) => return tally::say_broken(rt),
         }
-        i += 1;
     }
 }
 

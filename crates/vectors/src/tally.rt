@@ -1,38 +1,46 @@
 // What is printed: the cases that differ, and how often each of document 01's numbers was answered.
-ghost use Rattle.std.specs.Prelude.{◌<◌};
-
-use crate::list::Case;
-use crate::trial;
+use crate::list::{Case, Family, Sort, Told};
 use crate::trial::Outcome;
 use telling::{say, say_field, say_name};
 
-// For each sort: how often each of document 01's numbers was answered, and then these.
-const ALL: usize = 16;
+// How the cases of one sort went.
+#[derive(Clone, Copy)]
+struct Counts {
+    // How often each of document 01's numbers was answered.
+    answered: [u64; 16],
+    all: u64,
+    refused: u64,
+    differ: u64,
+}
 
-const REFUSED: usize = 17;
-
-const DIFFER: usize = 18;
-
-const WIDTH: usize = 19;
-
-const SORTS: usize = 3;
-
-pub const SLOTS: usize = 57;
+// How the cases of a list went.
+#[derive(Clone, Copy)]
+pub struct Tally {
+    sheets: Counts,
+    types: Counts,
+    imports: Counts,
+}
 
 pub fn say_broken(rt: &HostRuntime) {
     say(rt, b"? the list is broken\n");
 }
 
-fn say_sort(rt: &HostRuntime, sort: usize) -> usize {
-    match sort {
-        0 => say(rt, b" sheets"),
-        1 => say(rt, b" types"),
-        2 => say(rt, b" imports"),
-        _ => say(rt, b" ?"),
+impl Sort {
+    fn name(self) -> &'static [u8] {
+        match self {
+            Sort::Sheet => b" sheets",
+            Sort::Item(Family::Types) => b" types",
+            Sort::Item(Family::Imports) => b" imports",
+        }
     }
 }
 
-fn say_answer(rt: &HostRuntime, text: &[u8], number: usize, value: usize, also: usize) {
+fn say_told(rt: &HostRuntime, text: &[u8], told: Told) {
+    let Told {
+        number,
+        value,
+        also,
+    } = told;
     say_field(rt, text, number as u64);
     say(rt, b" ");
     say_name(rt, number);
@@ -49,101 +57,78 @@ pub fn say_difference(rt: &HostRuntime, at: usize, case: Case, outcome: Outcome)
     }
     say_field(rt, b"case ", at as u64);
     say(rt, b",");
-    say_sort(rt, case.sort);
-    say_answer(
-        rt,
-        b", differs: answered ",
-        outcome.number,
-        outcome.value,
-        outcome.also,
-    );
-    if trial::is_told(case, outcome.number, outcome.value, outcome.also) {
+    say(rt, case.sort.name());
+    say_told(rt, b", differs: answered ", outcome.told);
+    if outcome.told == case.told {
         say(rt, b", with other bytes\n");
-        return;
-    }
-    say_answer(rt, b"; the list has ", case.number, case.value, case.also);
-    say(rt, b"\n");
-}
-
-// Where a number of a sort is counted.
-fn slot_of(sort: usize, number: usize) -> usize
-    requires sort_bound { sort < 3 }
-    requires number_bound { number < 19 }
-    ensures { result < 57 }
-{
-    sort * WIDTH + number
-}
-
-// Counts stay far below 2^64, so the sum never wraps.
-fn one_more(tally: &mut [u64; SLOTS], sort: usize, number: usize)
-    requires sort_bound { sort < 3 }
-    requires number_bound { number < 19 }
-{
-    let slot = slot_of(sort, number);
-    tally[slot] = std::num::wrapping_add_u64(tally[slot], 1);
-}
-
-pub fn count(tally: &mut [u64; SLOTS], sort: usize, outcome: Outcome) {
-    let number = outcome.number;
-    if SORTS <= sort {
-        return;
-    }
-    one_more(tally, sort, ALL);
-    if number < ALL {
-        one_more(tally, sort, number);
-    }
-    if number != 0 {
-        one_more(tally, sort, REFUSED);
-    }
-    if !outcome.right {
-        one_more(tally, sort, DIFFER);
-    }
-}
-
-// A count behind a text.
-fn say_count(rt: &HostRuntime, text: &[u8], tally: &[u64; SLOTS], sort: usize, number: usize)
-    requires sort_bound { sort < 3 }
-    requires number_bound { number < 19 }
-{
-    let slot = slot_of(sort, number);
-    say_field(rt, text, tally[slot]);
-}
-
-// A line for each of document 01's numbers.
-fn say_numbers(rt: &HostRuntime, tally: &[u64; SLOTS], sort: usize)
-    requires { sort < 3 }
-{
-    let mut i = 0;
-    while i < ALL {
-        telling::say_number(rt, i as u64);
-        say(rt, b" ");
-        say_name(rt, i);
-        say_count(rt, b" ", tally, sort, i);
+    } else {
+        say_told(rt, b"; the list has ", case.told);
         say(rt, b"\n");
-        i += 1;
     }
 }
 
-// How the cases of a sort went, if there were any.
-fn say_tally(rt: &HostRuntime, tally: &[u64; SLOTS], sort: usize)
-    requires { sort < 3 }
-{
-    let all = slot_of(sort, ALL);
-    if tally[all] == 0 {
-        return;
+impl Counts {
+    const NONE: Counts = Counts {
+        answered: [0; 16],
+        all: 0,
+        refused: 0,
+        differ: 0,
+    };
+
+    // One case more.
+    fn add(&mut self, outcome: Outcome) {
+        let number = outcome.told.number;
+        self.all = self.all.saturating_add(1);
+        if let Some(count) = self.answered.get_mut(number) {
+            *count = count.saturating_add(1);
+        }
+        if number != 0 {
+            self.refused = self.refused.saturating_add(1);
+        }
+        if !outcome.right {
+            self.differ = self.differ.saturating_add(1);
+        }
     }
-    say_count(rt, b"", tally, sort, ALL);
-    say_sort(rt, sort);
-    say_count(rt, b": ", tally, sort, 0);
-    say_count(rt, b" ok, ", tally, sort, REFUSED);
-    say_count(rt, b" refused, ", tally, sort, DIFFER);
-    say(rt, b" differ\n");
-    say_numbers(rt, tally, sort);
+
+    // How the cases went, if there were any, and a line for each of document 01's numbers.
+    fn say(&self, rt: &HostRuntime, sort: Sort) {
+        if self.all == 0 {
+            return;
+        }
+        telling::say_number(rt, self.all);
+        say(rt, sort.name());
+        say_field(rt, b": ", self.answered[0]);
+        say_field(rt, b" ok, ", self.refused);
+        say_field(rt, b" refused, ", self.differ);
+        say(rt, b" differ\n");
+        for (number, count) in self.answered.iter().enumerate() {
+            telling::say_number(rt, number as u64);
+            say(rt, b" ");
+            say_name(rt, number);
+            say_field(rt, b" ", *count);
+            say(rt, b"\n");
+        }
+    }
 }
 
-// How the cases of a list went.
-pub fn say_list(rt: &HostRuntime, tally: &[u64; SLOTS]) {
-    say_tally(rt, tally, 0);
-    say_tally(rt, tally, 1);
-    say_tally(rt, tally, 2);
+impl Tally {
+    pub const NONE: Tally = Tally {
+        sheets: Counts::NONE,
+        types: Counts::NONE,
+        imports: Counts::NONE,
+    };
+
+    pub fn add(&mut self, sort: Sort, outcome: Outcome) {
+        match sort {
+            Sort::Sheet => self.sheets.add(outcome),
+            Sort::Item(Family::Types) => self.types.add(outcome),
+            Sort::Item(Family::Imports) => self.imports.add(outcome),
+        }
+    }
+
+    pub fn say(&self, rt: &HostRuntime) {
+        self.sheets.say(rt, Sort::Sheet);
+        self.types.say(rt, Sort::Item(Family::Types));
+        self.imports.say(rt, Sort::Item(Family::Imports));
+    }
 }

@@ -1,71 +1,59 @@
 // A case run on the product, and its answer compared with the list's.
-use crate::list::Case;
-use crate::{lent, list};
-use fields::{Answer, Read, Refusal};
+use crate::lent;
+use crate::list::{Case, Family, Sort, Told};
+use fields::{Answer, Extent, Fault, Read};
 
-// What was answered, and whether that and all that was lent are as the case says. The number of a case that was not run is 16.
+// What was answered, and whether that and all that was lent are as the case says.
 #[derive(Clone, Copy)]
 pub struct Outcome {
-    pub number: usize,
-    pub value: usize,
-    pub also: usize,
+    pub told: Told,
     pub right: bool,
 }
 
-// Whether an answer is the case's.
-pub fn is_told(case: Case, number: usize, value: usize, also: usize) -> bool {
-    number == case.number && value == case.value && also == case.also
-}
+// A case that passes the program's own buffers is not run.
+const NOT_RUN: Outcome = Outcome {
+    told: Told {
+        number: 16,
+        value: 0,
+        also: 0,
+    },
+    right: false,
+};
 
-// An answer before what was lent is looked at.
-fn compared(case: Case, number: usize, value: usize, also: usize) -> Outcome {
-    Outcome {
-        number: number,
-        value: value,
-        also: also,
-        right: is_told(case, number, value, also),
-    }
-}
-
-fn refused(case: Case, why: Refusal, value: usize) -> Outcome {
-    compared(
-        case,
-        fields::number_of(why) as usize,
+fn refused(fault: Fault) -> Told {
+    let Fault { why, value } = fault;
+    Told {
+        number: fields::number_of(why) as usize,
         value,
-        fields::byte_of(why) as usize,
-    )
-}
-
-fn outcome_of(case: Case, answer: Answer) -> Outcome {
-    match answer {
-        Answer::Size(size) => compared(case, 0, size, 0),
-        Answer::Refused(why, value) => refused(case, why, value),
+        also: fields::byte_of(why) as usize,
     }
 }
 
-fn reading_of(case: Case, answer: Read) -> Outcome {
+fn told_of(answer: Answer) -> Told {
     match answer {
-        Read::Item(words, bytes) => compared(case, 0, bytes, words),
-        Read::Refused(why, value) => refused(case, why, value),
+        Ok(size) => Told {
+            number: 0,
+            value: size,
+            also: 0,
+        },
+        Err(fault) => refused(fault),
+    }
+}
+
+fn told_of_reading(answer: Read) -> Told {
+    match answer {
+        Ok(Extent { words, took }) => Told {
+            number: 0,
+            value: took,
+            also: words,
+        },
+        Err(fault) => refused(fault),
     }
 }
 
 // The last `size` bytes of the section, which are its body.
 fn body_of(section: &[u8], size: usize) -> &[u8] {
-    if size <= section.len() {
-        &section[section.len() - size..]
-    } else {
-        section
-    }
-}
-
-// Whether output and body begin with section and body.
-fn is_section_made(case: Case, section: &[u8], body: &[u8], out: &[u8], turned: bool) -> bool {
-    if lent::is_made(out, section, turned) {
-        lent::is_made(body, body_of(section, case.body), turned)
-    } else {
-        false
-    }
+    &section[section.len().saturating_sub(size)..]
 }
 
 fn try_sheet(
@@ -78,24 +66,19 @@ fn try_sheet(
 ) -> Outcome {
     telling::fill(body, turned);
     telling::fill(out, turned);
-    let mut outcome = outcome_of(case, sheets::sheet(sheet, body, out));
-    if outcome.right {
-        outcome.right = is_section_made(case, section, body, out, turned);
-    }
-    outcome
-}
-
-fn read(case: Case, input: &[u8], row: &mut [u32]) -> Read {
-    if case.sort == list::TYPES {
-        items::read_type(input, case.grade, row)
-    } else {
-        items::read_import(input, case.grade, row)
+    let told = told_of(sheets::sheet(sheet, body, out));
+    Outcome {
+        told,
+        right: told == case.told
+            && lent::is_made(out, section, turned)
+            && lent::is_made(body, body_of(section, case.body), turned),
     }
 }
 
 // The bytes have the row's size: they fill it and hold it afterwards.
 fn try_reading(
     case: Case,
+    family: Family,
     input: &[u8],
     made: &[u8],
     bytes: &mut [u8],
@@ -103,11 +86,14 @@ fn try_reading(
     turned: bool,
 ) -> Outcome {
     lent::fill_row(row, bytes, turned);
-    let mut outcome = reading_of(case, read(case, input, row));
-    if outcome.right {
-        outcome.right = lent::is_row_made(row, bytes, made, turned);
+    let told = told_of_reading(match family {
+        Family::Types => items::read_type(input, case.grade, row),
+        Family::Imports => items::read_import(input, case.grade, row),
+    });
+    Outcome {
+        told,
+        right: told == case.told && lent::is_row_made(row, bytes, made, turned),
     }
-    outcome
 }
 
 // Runs a case over one pattern.
@@ -120,10 +106,9 @@ fn try_once(
     row: &mut [u32],
     turned: bool,
 ) -> Outcome {
-    if case.sort == list::SHEETS {
-        try_sheet(case, input, made, body, out, turned)
-    } else {
-        try_reading(case, input, made, out, row, turned)
+    match case.sort {
+        Sort::Sheet => try_sheet(case, input, made, body, out, turned),
+        Sort::Item(family) => try_reading(case, family, input, made, out, row, turned),
     }
 }
 
@@ -138,9 +123,10 @@ fn try_twice(
 ) -> Outcome {
     let first = try_once(case, input, made, body, out, row, false);
     if first.right {
-        return try_once(case, input, made, body, out, row, true);
+        try_once(case, input, made, body, out, row, true)
+    } else {
+        first
     }
-    first
 }
 
 // Lends the parts of the buffers that the case names.
@@ -152,30 +138,16 @@ pub fn try_case(
     out: &mut [u8],
     row: &mut [u32],
 ) -> Outcome {
-    let body_room = case.body_room;
-    let room = case.room;
-    let words = room / 4;
-    let not_run = Outcome {
-        number: 16,
-        value: 0,
-        also: 0,
-        right: false,
-    };
-    if body.len() < body_room {
-        return not_run;
-    }
-    if out.len() < room {
-        return not_run;
-    }
-    if row.len() < words {
-        return not_run;
+    let words = case.room / 4;
+    if body.len() < case.body_room || out.len() < case.room || row.len() < words {
+        return NOT_RUN;
     }
     try_twice(
         case,
         numbers::part(input, 0, case.input),
         numbers::part(made, 0, case.made),
-        &mut body[..body_room],
-        &mut out[..room],
+        &mut body[..case.body_room],
+        &mut out[..case.room],
         &mut row[..words],
     )
 }

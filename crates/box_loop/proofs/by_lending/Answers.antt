@@ -1,7 +1,7 @@
 -- Each step's equation is put behind those before it: the state and the body that stand there are those of the steps by value.
+use Rattle.std.specs.Prelude.{Ok}
 use Rattle.std.proofs.Common.{◌≡◌, ℕ, List, refl, sym, ap}
-use Rattle.fields.specs.declared.Answer.{Answer}
-use Rattle.fields.specs.declared.Answer.TheVariants.{Size}
+use Rattle.fields.specs.Answer.{Answer}
 use Rattle.fields.specs.Answers.{left}
 use Rattle.sections.specs.declared.Section.{Section}
 use Rattle.sections.specs.Section.{fresh}
@@ -34,7 +34,7 @@ returns c =
     let row = c.args.row.now in
     let words = c.args.words.now in
     let pool = c.args.pool.now in
-    let t0 : Stands (turned (gives (fresh 7) (Size 0)) c.args.body.now) c.new-section.result c.args.body.now =
+    let t0 : Stands (turned (gives (fresh 7) (Ok 0)) c.args.body.now) c.new-section.result c.args.body.now =
     record { section = sym c.new-section.ensures; body = refl } in
     let t1 = on (λ s b. rowing s row pool b) t0 c.row.ensures in
     let t2 = on (λ s b. rowing s words pool b) t1 c.row-2.ensures in

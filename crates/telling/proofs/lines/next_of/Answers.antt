@@ -1,12 +1,10 @@
-use Rattle.std.proofs.Common.{sym, ◌∙◌, add-one}
-use Rattle.telling.proofs.LineLaws.{next_here, next_on, next_end}
+use Rattle.std.proofs.Common.{rules, tests, eqb}
+use Rattle.std.proofs.lemmas.Iterator.{YieldsList-from_slice}
+use Rattle.std.proofs.lemmas.Iterator.Search.{position_from_yields_List}
+use Rattle.telling.proofs.LineLaws.{next_position}
 use Rattle.telling.proofs.lines.next_of.Goals as goal
 
-pub returns-then-line-i : goal.returns-then-line-i
-returns-then-line-i c = sym (c.loop-i.invariant ∙ next_here _ _ _ c.loop-i-test.true c.if-line-i.true)
-
-pub loop-i-preserved : goal.loop-i-preserved
-loop-i-preserved c = rw add-one (c.loop-i.invariant ∙ next_on _ _ _ c.loop-i-test.true c.if-line-i.false)
-
 pub returns : goal.returns
-returns c = sym (c.loop-i.invariant ∙ next_end _ _ _ c.loop-i-test.false)
+returns c =
+    let p = position_from_yields_List (λ b. eqb b c.args.byte) _ _ _ c.position.ensures.ran (YieldsList-from_slice c.after-rest.result.now cc) (λ x b q k. search (rules, tests)) in
+    rw (c.unwrap_or.ensures, p, next_position c.args.byte c.after-rest.result.now, c.after-rest.ensures)

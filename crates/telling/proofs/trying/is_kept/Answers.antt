@@ -1,25 +1,21 @@
--- By where the bytes lie that may change.
-use Rattle.std.proofs.Common.{sym, ◌∙◌, arith}
-use Rattle.numbers.proofs.BytesLaws.{to_end}
-use Rattle.telling.proofs.TryingLaws.{kept_whole, kept_not, kept_front, kept-short, kept-both}
+use Rattle.std.proofs.Common.{sym, ◌≡◌, ◌+◌, ◌∙◌, drop, rules}
+use Rattle.telling.proofs.TryingLaws.{kept_not, kept-both, drop_capped}
 use Rattle.telling.proofs.trying.is_kept.Goals as goal
 
-pub returns-then-out-at : goal.returns-then-out-at
-returns-then-out-at c = c.starts_with.ensures ∙ sym (kept_whole _ _ _ _ c.if-out-at.true)
+pub returns-then-starts_with : goal.returns-then-starts_with
+returns-then-starts_with c =
+    let end = c.saturating_add-end in
+    let o : drop end.result c.args.old.now ≡ drop (c.args.at + c.args.size) c.args.old.now = drop_capped _ _ _ end.ensures (search rules) in
+    let n : drop end.result c.args.out.now ≡ drop (c.args.at + c.args.size) c.args.out.now = drop_capped _ _ _ end.ensures (search rules) in
+    rw (
+      c.starts_with-then-starts_with.ensures,
+      c.after.ensures,
+      c.after-then-starts_with.ensures,
+      o,
+      n,
+    ) (sym (kept-both _ _ _ _ (rw (← c.before-2.ensures, ← c.starts_with.ensures) c.if-starts_with.true)))
 
-pub returns-then-not-starts_with : goal.returns-then-not-starts_with
-returns-then-not-starts_with c =
-    sym (kept_not _ _ _ _ (sym c.starts_with-2.ensures ∙ c.if-not-starts_with.true))
-
-pub returns-then-out-at-2 : goal.returns-then-out-at-2
-returns-then-out-at-2 c =
-    sym (kept_front _ _ _ _ (sym c.starts_with-2.ensures ∙ c.if-not-starts_with.false) (omega arith))
-
-pub returns-then-old-end : goal.returns-then-old-end
-returns-then-old-end c =
-    sym (kept-short _ _ _ _ (sym c.starts_with-2.ensures ∙ c.if-not-starts_with.false) (omega arith) (omega arith))
-
-pub returns : goal.returns
-returns c =
-    c.starts_with-3.ensures ∙ (simp to_end)
-    ∙ sym (kept-both _ _ _ _ (sym c.starts_with-2.ensures ∙ c.if-not-starts_with.false))
+pub returns-else-starts_with : goal.returns-else-starts_with
+returns-else-starts_with c =
+    c.if-starts_with.false
+    ∙ sym (kept_not _ _ _ _ (rw (← c.before-2.ensures, ← c.starts_with.ensures) c.if-starts_with.false))

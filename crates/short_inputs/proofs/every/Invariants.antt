@@ -1,9 +1,0 @@
--- The count of inputs passed rises to their number.
-use Rattle.std.proofs.Common.{◌-◌, ◌≤◌}
-use Rattle.short_inputs.proofs.every.Given as goal
-
-abbrev pub invariant-loop-i : goal.invariant-loop-i
-invariant-loop-i l = l.i ≤ l.total
-
-abbrev pub decreases-loop-i : goal.decreases-loop-i
-decreases-loop-i l = l.total - l.i
