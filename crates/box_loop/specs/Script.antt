@@ -1,6 +1,5 @@
 -- The program's steps, one after the other, as the definitions of the steps by value say them.
-use Rattle.std.specs.Prelude.{Ok}
-use Rattle.std.specs.Prelude.{ℕ, List, [], ◌∷◌}
+use Rattle.std.specs.Prelude.{Ok, ℕ, List, [], ◌∷◌}
 use Rattle.fields.specs.Answers.{Left}
 use Rattle.sections.specs.declared.Section.{Section}
 use Rattle.sections.specs.Section.{fresh}

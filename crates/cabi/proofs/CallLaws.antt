@@ -1,8 +1,6 @@
 -- What an exported call leaves, from what the step by value handed back: by the state that the numbers are, or because they are none.
 -- Assumes nothing.
-use Rattle.std.specs.Prelude.{None}
-use Rattle.std.specs.Prelude.{Some}
-use Rattle.std.specs.Prelude.{Option}
+use Rattle.std.specs.Prelude.{None, Some, Option}
 use Prim.Native.Nat.{ℕ}
 use mathlib.Core.Path.{◌≡◌, sym, ◌∙◌}
 use mathlib.Core.List.{List}

@@ -1,6 +1,5 @@
 -- What a reading leaves, as the C call gives it back.
-use Rattle.std.specs.Prelude.{Err, Ok}
-use Rattle.std.specs.Prelude.{ℕ, List}
+use Rattle.std.specs.Prelude.{Err, Ok, ℕ, List}
 use Rattle.fields.specs.Read.{Read}
 use Rattle.fields.specs.Answers.{LeftRow, number_of_refusal, byte_of_refusal}
 use Rattle.cabi.specs.declared.Reply.{Reply}

@@ -1,6 +1,5 @@
 -- What every call replies: document 01's number, the byte of a name after TEXT, and the value that comes with it.
-use Rattle.fields.specs.Answer.{Answer}
-use Rattle.fields.specs.Answer.{Refused}
+use Rattle.fields.specs.Answer.{Answer, Refused}
 use Rattle.fields.specs.declared.Refusal.TheVariants as refusal
 use Rattle.fields.specs.Answers.{number_of, value_of, byte_of}
 use Rattle.cabi.specs.declared.Reply.{Reply}

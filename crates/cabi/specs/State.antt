@@ -1,8 +1,5 @@
 -- A section's state as five numbers: family, used, count, phase (0 closed, 1 opened, 2 headed), start.
-use Rattle.std.specs.Prelude.{None}
-use Rattle.std.specs.Prelude.{Some}
-use Rattle.std.specs.Prelude.{Option}
-use Rattle.std.specs.Prelude.{ℕ, ◌^◌, cond, List, [], ◌∷◌, eqb, ltb, get_or}
+use Rattle.std.specs.Prelude.{None, Some, Option, ℕ, ◌^◌, cond, List, [], ◌∷◌, eqb, ltb, get_or}
 use Rattle.fields.specs.Answers.{Left}
 use Rattle.sections.specs.declared.Phase.{Phase}
 use Rattle.sections.specs.declared.Phase.TheVariants.{Closed, Opened, Headed}

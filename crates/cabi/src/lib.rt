@@ -96,10 +96,10 @@ fn in_phase(family: u32, used: usize, count: u32, phase: Phase) -> Option<Sectio
     ensures { result ≡ section_of family used count phase }
 {
     Some(Section {
-        family: family,
-        used: used,
-        count: count,
-        phase: phase,
+        family,
+        used,
+        count,
+        phase,
     })
 }
 

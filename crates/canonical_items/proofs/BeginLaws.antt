@@ -12,8 +12,7 @@ use lib.Seq.{drop-drop, get_or-drop}
 use borrow.Author.Tests.{le-ltb, lt-leb, le-leb, leb-true, leb-false, eq-eqb, eqb-true}
 use Rattle.fields.specs.declared.Field.{Field}
 use Rattle.fields.specs.declared.Field.TheVariants as field
-use Rattle.fields.specs.Leaf.{Leaf}
-use Rattle.fields.specs.Leaf.{Fine, Bad}
+use Rattle.fields.specs.Leaf.{Leaf, Fine, Bad}
 use Rattle.fields.specs.declared.Refusal.TheVariants as refusal
 use Rattle.fields.specs.declared.Shape.{Shape}
 use Rattle.fields.specs.inside.Run.{along, makes}

@@ -1,6 +1,5 @@
 -- Canonicals with options: the index and the count behind the first bytes, the options, and a lift's type.
-use Rattle.std.specs.Prelude.{Some, None}
-use Rattle.std.specs.Prelude.{Err, Ok}
+use Rattle.std.specs.Prelude.{Some, None, Err, Ok}
 use Prim.Native.Nat.{ℕ, suc, ◌+◌, ◌-◌, ◌*◌, ◌≤◌}
 use native.Mathlib.Omega.{arith}
 use native.Mathlib.Nat.{add-zero}
@@ -16,8 +15,7 @@ use Rattle.numbers.specs.Taken as taken
 use Rattle.numbers.specs.Leb.{take_unsigned}
 use Rattle.fields.specs.declared.Field.{Field}
 use Rattle.fields.specs.declared.Field.TheVariants as field
-use Rattle.fields.specs.Leaf.{Leaf}
-use Rattle.fields.specs.Leaf.{Fine}
+use Rattle.fields.specs.Leaf.{Leaf, Fine}
 use Rattle.fields.specs.declared.Shape.{Shape}
 use Rattle.fields.specs.inside.Run.{along, makes, after}
 use Rattle.fields.specs.inside.Stages.{counted_fields}
@@ -92,7 +90,7 @@ module _ (lead g b : ℕ) (z last : Field) (input : List ℕ) (from : ℕ) (begu
     where
       go : (x : Taken) → take_unsigned (drop from input) ≡ x
           → Wrong (along (scan lead g) (field.Index ∷ field.Nothing ∷ []) (drop from input) from 1)
-      go (Ok taken2) e = absurd (h taken2.value taken2.took e)
+      go (Ok got) e = absurd (h got.value got.took e)
       go taken.Cut e = rw e tt
       go taken.Bad e = rw e tt
 
@@ -139,9 +137,9 @@ module _ (lead g b : ℕ) (z last : Field) (input : List ℕ) (from : ℕ) (begu
   unopened h = go (take_unsigned (drop from input)) refl
     where
       go : (x : Taken) → take_unsigned (drop from input) ≡ x → Wrong (scanned lead g shape input)
-      go (Ok taken2) e =
-          let k = counted_none 1 g behind input (from + taken2.took) 2 (λ m u d. h taken2.value taken2.took m u e d) in
-          subst Wrong (sym (whole taken2.value taken2.took e ∙ k.2)) tt
+      go (Ok got) e =
+          let k = counted_none 1 g behind input (from + got.took) 2 (λ m u d. h got.value got.took m u e d) in
+          subst Wrong (sym (whole got.value got.took e ∙ k.2)) tt
       go taken.Cut e = subst Wrong (sym staged) (after-wrong (along (scan lead g) (field.Index ∷ field.Nothing ∷ []) (drop from input) from 1) (λ at made. counted_scan lead g shape input at made) (opens_wrong (λ n t d. no (sym e ∙ d))))
         where
           no : {n t : ℕ} → taken.Cut ≡ taken.Value n t → ⊥
@@ -260,7 +258,7 @@ module _ (g : ℕ) (input : List ℕ) (from : ℕ) (begun : Begun 1 g 0 (field.F
   lift_open h ws row z = tried-wrong (scanned 1 g lifted input) ws row (subst Wrong (sym lift_last) (go (take_unsigned (drop end input)) refl)) z
     where
       go : (x : Taken) → take_unsigned (drop end input) ≡ x → Wrong (scans g input (field.Index ∷ []) end (3 + r.count * 2))
-      go (Ok taken2) e = absurd (h taken2.value taken2.took e)
+      go (Ok got) e = absurd (h got.value got.took e)
       go taken.Cut e = rw e tt
       go taken.Bad e = rw e tt
 

@@ -19,8 +19,7 @@ use Rattle.numbers.proofs.BytesLaws.{to_end}
 use Rattle.numbers.proofs.SeenLaws.{seen-taken}
 use Rattle.fields.specs.declared.Field.{Field}
 use Rattle.fields.specs.declared.Field.TheVariants as field
-use Rattle.fields.specs.Leaf.{Leaf}
-use Rattle.fields.specs.Leaf.{Fine, Bad}
+use Rattle.fields.specs.Leaf.{Leaf, Fine, Bad}
 use Rattle.fields.proofs.OutcomeLaws.{fine-same}
 use Rattle.fields.specs.declared.Refusal.TheVariants.{Newer, Code}
 use Rattle.fields.specs.declared.Site.TheVariants.{CanonOption}
@@ -83,7 +82,7 @@ module _ (g : ℕ) (bs : List ℕ) where
 
       not_behind : (r : Taken) → seen r ≡ None → None ≡ pair_of (past 1 (numbered (drop 1 bs) r 2)) (byte bs 0 ∷ value_in r ∷ [])
       unfolding pair_of
-      not_behind (Ok taken2) h = impossible cc
+      not_behind (Ok got) h = impossible cc
       not_behind taken.Cut h = refl
       not_behind taken.Bad h = refl
 

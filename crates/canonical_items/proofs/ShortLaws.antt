@@ -1,7 +1,6 @@
 -- A canonical with at most two words behind its kind: what a step says of its field, two fields one after the other, and the words
 -- stored in the row; an index and a count.
-use Rattle.std.specs.Prelude.{Option, Some, None, option_map, MatchOption}
-use Rattle.std.specs.Prelude.{Err, Ok}
+use Rattle.std.specs.Prelude.{Option, Some, None, option_map, MatchOption, Err, Ok}
 use Prim.Native.Nat.{ℕ, zero, suc, ◌+◌, ◌-◌, ◌≤◌, ◌<◌, ◌^◌}
 use native.Mathlib.Nat.{add-zero}
 use native.Mathlib.Omega.{arith}
@@ -22,8 +21,7 @@ use Rattle.numbers.proofs.BytesLaws.{to_end}
 use Rattle.numbers.proofs.Impossible.{impossible}
 use Rattle.numbers.proofs.SeenLaws.{seen-some, seen_none}
 use Rattle.fields.specs.declared.Field.TheVariants as field
-use Rattle.fields.specs.Leaf.{Leaf}
-use Rattle.fields.specs.Leaf.{Fine, Bad}
+use Rattle.fields.specs.Leaf.{Leaf, Fine, Bad}
 use Rattle.fields.specs.declared.Refusal.TheVariants.{Code}
 use Rattle.fields.specs.inside.Run.{along, makes}
 use Rattle.fields.specs.Walk.{next, took}
@@ -86,7 +84,7 @@ module _ (input : List ℕ) (at : ℕ) (e : None ≡ seen (take_unsigned (take (
   index_none {r} z g = go (take_unsigned (drop at input)) refl
     where
       go : (t : Taken) → take_unsigned (drop at input) ≡ t → Stepped at (numbered (drop at input) t 1) (value_in t ∷ []) r
-      go (Ok taken2) q = absurd (seen_not taken2.value taken2.took q)
+      go (Ok got) q = absurd (seen_not got.value got.took q)
       go taken.Cut q = z
       go taken.Bad q = z
 
@@ -219,13 +217,6 @@ put_yes w k v row h e = e ∙ simp (lt-ltb k w h)
 
 pub put_no : (w k v : ℕ) (row : List ℕ) {new : List ℕ} → w ≤ k → new ≡ row → new ≡ put w k v row
 put_no w k v row h e = e ∙ simp (le-ltb k w h)
-
-pub put-length : (w k v : ℕ) (row : List ℕ) {new : List ℕ} → new ≡ put w k v row → length new ≡ length row
-put-length w k v row e = ap length e ∙ go (ltb k w)
-  where
-    go : (t : Bool) → length (cond t (set row k v) row) ≡ length row
-    go true = length-set row k v
-    go false = refl
 
 pub all-stored : (w kind a b : ℕ) (row : List ℕ) → 1 ≤ w → w ≤ 3
     → put w 2 b (put w 1 a (set row 0 kind)) ≡ sets row 0 (kind ∷ take (w - 1) (a ∷ b ∷ []))

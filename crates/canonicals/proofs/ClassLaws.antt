@@ -2,7 +2,7 @@
 -- the row written.
 use Rattle.std.specs.Prelude.{Option, Some, None, IfSome, Ok}
 use Rattle.std.proofs.lemmas.Option.{IfSome_then}
-use Prim.Native.Nat.{ℕ, zero, suc, ◌+◌, ◌-◌, ◌*◌, ◌≤◌, ◌<◌}
+use Prim.Native.Nat.{ℕ, zero, suc, ◌+◌, ◌*◌, ◌≤◌, ◌<◌}
 use native.Mathlib.Omega.{arith}
 use mathlib.Core.Path.{◌≡◌, refl, sym, ap, subst, ◌∙◌}
 use mathlib.Core.List.{List, [], ◌∷◌, ◌++◌, append-nil}
@@ -70,9 +70,6 @@ module _ (out : List ℕ) (at : ℕ) {c : Class} {row : List ℕ} {r : ℕ} (kno
 
 -- the bytes of the classes, one after the other
 module _ (lead : ℕ) (out : List ℕ) (to : ℕ) where
-  pub flag_wrote : (x : ℕ) {b : ℕ} → b ≡ flag x → Wrote out to (lead ∷ flag x ∷ []) (to + 2) (set (set out to lead) (to + 1) b)
-  flag_wrote x {b} e = subst (λ y. Wrote out to (lead ∷ y ∷ []) (to + 2) (set (set out to lead) (to + 1) b)) e (bytes-wrote out to lead b)
-
   module _ (x : ℕ) (h : to + (1 + length (unsigned x)) ≤ length out) {q : Stored} {mid : List ℕ}
       (e : bytes.left q mid ≡ store (unsigned x) (to + 1) (set out to lead)) where
     pub index_wrote : Wrote out to (lead ∷ unsigned x) (to + 1 + length (unsigned x)) mid
@@ -100,14 +97,6 @@ module _ (lead : ℕ) (out : List ℕ) (to : ℕ) where
       let w = bytes-wrote out to lead b in
       subst (λ z. Wrote out to (lead ∷ z ∷ unsigned x) (to + 2 + length (unsigned x)) new) eb
       (then w (number_wrote e (omega (arith, same_size w))))
-
-  pub options_wrote : (row : List ℕ) {new : List ℕ} → new ≡ sets (set out to lead) (to + 1) (optioned_bytes row)
-      → Wrote out to (lead ∷ optioned_bytes row) (to + 1 + length (optioned_bytes row)) new
-  options_wrote row e = then-byte (byte-wrote out to lead) (record { place = refl; content = e })
-
-  pub zero_options_wrote : (row : List ℕ) {new : List ℕ} → new ≡ sets (set (set out to lead) (to + 1) 0x00) (to + 2) (optioned_bytes row)
-      → Wrote out to (lead ∷ 0x00 ∷ optioned_bytes row) (to + 2 + length (optioned_bytes row)) new
-  zero_options_wrote row e = then (bytes-wrote out to lead 0x00) (record { place = refl; content = e })
 
 -- an index, a count and options, one after the other
 pub optioned-wrote : (row out : List ℕ) (to : ℕ) {one two new : List ℕ} {n m : ℕ} {q t : Stored} {j : ℕ} → to + optioned_size row ≤ length out
@@ -189,20 +178,15 @@ rights-choices pool (suc n) ws h = (h.0, rights-choices pool n (drop 2 ws) h.1.1
 abbrev pub Going : List ℕ → ℕ → ℕ → ℕ → ℕ → ℕ → ℕ → Type 0
 Going row from n base due at made = group.Going [] one element 6 row from n base due at made
 
-pub going_start : (row : List ℕ) (from n base left : ℕ) → left ≡ n → Going row from n base left from base
-going_start row from n base left e = subst (λ d. Going row from n base d from base) (sym e) (group.going_start [] one element 6 row from n base)
-
 module _ {row : List ℕ} {from n base due at made : ℕ} (g : Going row from n base due at made) where
   pub going_place : at + due * 2 ≡ from + n * 2
   unfolding widths wide
   going_place = g.place
 
-  pub going_next : 0 < due → {r : ℕ} → (choice (word row at ∷ word row (at + 1) ∷ []) ≡ Right) × (r ≡ length (canonopt (word row at) (word row (at + 1))))
-      → r ≤ 6 → (left : ℕ) → left ≡ due - 1 → Going row from n base left (at + 2) (made + r)
+  pub going_next : {m : ℕ} → due ≡ suc m → {r : ℕ} → (choice (word row at ∷ word row (at + 1) ∷ []) ≡ Right) × (r ≡ length (canonopt (word row at) (word row (at + 1))))
+      → r ≤ 6 → Going row from n base m (at + 2) (made + r)
   unfolding Rights flaw widths wide
-  going_next h {r} k b left e =
-      subst (λ d. Going row from n base d (at + 2) (made + r)) (sym e)
-      (group.going_next g h (choice_at row at k.0, (refl, tt)) (k.1 ∙ ap length (canonopt_at row at)) b refl)
+  going_next e k b = group.going_next g e (choice_at row at k.0, (refl, tt)) (k.1 ∙ ap length (canonopt_at row at)) b refl
 
   pub going_end : due ≤ 0 → Chosen n (drop from row) base made
   unfolding widths wide
@@ -226,12 +210,6 @@ zero_options_known k = record { right = k.0; size = k.1 }
 abbrev pub Putting : List ℕ → ℕ → ℕ → List ℕ → ℕ → ℕ → ℕ → ℕ → List ℕ → Type 0
 Putting row from n old base due at to new = group.Putting [] one element row from n old base due at to new
 
-pub putting_start : (row : List ℕ) (from n : ℕ) (old : List ℕ) (base : ℕ) → Choices n (drop from row) → (left : ℕ) → left ≡ n
-    → Putting row from n old base left from base old
-putting_start row from n old base h left e =
-    subst (λ d. Putting row from n old base d from base old) (sym e)
-    (group.putting_start [] one element row from n old base (choices-rights [] n (drop from row) h))
-
 module _ {row : List ℕ} {from n : ℕ} {old : List ℕ} {base due at to : ℕ} {new : List ℕ} (p : Putting row from n old base due at to new) where
   pub putting_place : at + due * 2 ≡ from + n * 2
   unfolding widths wide
@@ -245,12 +223,10 @@ module _ {row : List ℕ} {from n : ℕ} {old : List ℕ} {base due at to : ℕ}
       let t = group.putting_round due p h b in
       (omega (arith, choice-below (drop at row) t.0.0, first_word row at), omega (arith, t.1, ap length (canonopt_at row at)))
 
-  pub putting_next : 0 < due → {next : ℕ} {more : List ℕ} → Wrote new to (canonopt (word row at) (word row (at + 1))) next more
-      → (left : ℕ) → left ≡ due - 1 → Putting row from n old base left (at + 2) next more
+  pub putting_next : {m : ℕ} → due ≡ suc m → {next : ℕ} {more : List ℕ} → Wrote new to (canonopt (word row at) (word row (at + 1))) next more
+      → Putting row from n old base m (at + 2) next more
   unfolding widths wide
-  putting_next h {next} {more} w left e =
-      subst (λ d. Putting row from n old base d (at + 2) next more) (sym e)
-      (group.putting_next p h (subst (λ l. Wrote new to l next more) (canonopt_at row at) w) refl)
+  putting_next e {next} {more} w = group.putting_next p e (subst (λ l. Wrote new to l next more) (canonopt_at row at) w) refl
 
   pub putting_end : due ≤ 0 → Wrote old base (choices n (drop from row)) to new
   unfolding widths wide
@@ -437,15 +413,6 @@ module _ (lead : ℕ) (row pool : List ℕ) {n : ℕ} where
   class_held class.Not e = let h = (accepted None row pool n e).is in impossible cc
 
 -- ---- what straight code answers
-
--- the class found, by a match
-pub put-told : {c d : Class} → d ≡ c → (row out : List ℕ) (to : ℕ) → Good d row × (to + size_for d row ≤ length out)
-    → Good c row × (to + size_for c row ≤ length out)
-put-told e row out to h = subst (λ k. Good k row × (to + size_for k row ≤ length out)) e h
-
-pub wrote-told : {c d : Class} → d ≡ c → (lead : ℕ) (row out : List ℕ) (to : ℕ) {new : List ℕ} → new ≡ sets out to (bytes_for c lead row)
-    → new ≡ sets out to (bytes_for d lead row)
-wrote-told e lead row out to p = p ∙ ap (λ k. sets out to (bytes_for k lead row)) (sym e)
 
 known_sized : {c d : Class} → d ≡ c → (row pool : List ℕ) {r : ℕ} → length pool ≤ 65536 → Known c row r → (lead : ℕ)
     → measured_row (shape_for d lead) row pool ≡ Ok r

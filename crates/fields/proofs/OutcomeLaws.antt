@@ -40,9 +40,6 @@ item-same e = (ap (ok_in (λ (x : Extent). x.words)) e, ap (ok_in (λ (x : Exten
 pub refused-same : {w v : Refusal} {i j : ℕ} → answer.Refused w i ≡ answer.Refused v j → (w ≡ v) × (i ≡ j)
 refused-same e = (ap why_in e, ap value_in e)
 
-pub unread-same : {w v : Refusal} {i j : ℕ} → read.Refused w i ≡ read.Refused v j → (w ≡ v) × (i ≡ j)
-unread-same e = (ap why_in e, ap value_in e)
-
 -- what `?` hands on is the fault that came
 pub passed-on : {A : Type 0} {e : Fault} (r : Result A Fault) → IsErr r × IsErrAnd r (λ (y : Fault). y ≡ e) → r ≡ Err e
 passed-on r h = let q = err_from_is_err_and r h.1 in q.1 ∙ ap Err q.2

@@ -8,8 +8,7 @@ use mathlib.Core.List.{List, [], ◌∷◌, ◌++◌, append_assoc}
 use lib.ListN.{drop}
 use lib.Seq.{drop-drop}
 use Rattle.fields.specs.declared.Field.{Field}
-use Rattle.fields.specs.Leaf.{Leaf}
-use Rattle.fields.specs.Leaf.{Fine, Bad}
+use Rattle.fields.specs.Leaf.{Leaf, Fine}
 use Rattle.fields.specs.inside.Run.{along, makes, after, Under}
 use Rattle.fields.specs.Walk.{Plan, end, step, Side, next, took, walk, outs}
 use Rattle.fields.specs.Shape.{seq}

@@ -1,12 +1,9 @@
 -- What a call answers and leaves: document 01's number and value of each answer, and the buffer or row.
-use Rattle.std.specs.Prelude.{Ok}
-use Rattle.std.specs.Prelude.{Err}
-use Rattle.std.specs.Prelude.{List, ℕ, ◌+◌, ◌*◌, ◌/◌, ◌%◌}
+use Rattle.std.specs.Prelude.{Ok, Err, List, ℕ, ◌+◌, ◌*◌, ◌/◌, ◌%◌}
 use Rattle.fields.specs.declared.Offset.{Offset}
 use Rattle.fields.specs.declared.Refusal.{Refusal}
 use Rattle.fields.specs.declared.Refusal.TheVariants as refusal
-use Rattle.fields.specs.Answer.{Answer}
-use Rattle.fields.specs.Answer.{Refused}
+use Rattle.fields.specs.Answer.{Answer, Refused}
 use Rattle.fields.specs.Read.{Read}
 
 -- document 01's number and value of an answer

@@ -1,9 +1,6 @@
 -- The grades of forms: where the byte that marks a form stands, the bytes, and the grade. All else is of grade 1.
-use Rattle.std.specs.Prelude.{None}
-use Rattle.std.specs.Prelude.{Some}
+use Rattle.std.specs.Prelude.{None, Some, Option, ℕ, cond, List, [], ◌∷◌, ltb}
 use Rattle.fields.specs.declared.Shape.{Shape}
-use Rattle.std.specs.Prelude.{Option}
-use Rattle.std.specs.Prelude.{ℕ, cond, List, [], ◌∷◌, ltb}
 use Rattle.fields.specs.declared.Site.{Site}
 use Rattle.fields.specs.declared.Site.TheVariants as site
 use Rattle.fields.specs.declared.Field.{Field}

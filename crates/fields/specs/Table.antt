@@ -1,8 +1,5 @@
 -- A table of kinds: a line has the kind, its shape, and its production in the binary document over the words after the kind.
-use Rattle.std.specs.Prelude.{None}
-use Rattle.std.specs.Prelude.{Some}
-use Rattle.std.specs.Prelude.{Option}
-use Rattle.std.specs.Prelude.{true, false, cond, List, [], ◌∷◌, ◌++◌, ℕ, zero, suc, eqb, drop}
+use Rattle.std.specs.Prelude.{None, Some, Option, true, false, cond, List, [], ◌∷◌, ◌++◌, ℕ, zero, suc, eqb, drop}
 use Rattle.numbers.specs.Leb.{unsigned}
 use Rattle.fields.specs.declared.Field.{Field}
 use Rattle.fields.specs.declared.Field.TheVariants as field

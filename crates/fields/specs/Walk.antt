@@ -1,10 +1,8 @@
 -- A plan is a tree: a field, and the plan that follows what the field says. A walk over it goes from words to bytes or from bytes to
 -- words: `look` says what stands at a place, `tell` what it says, and `make` what is made of it.
-use Rattle.std.specs.Prelude.{Err, Ok}
-use Rattle.std.specs.Prelude.{List, [], ◌++◌, ℕ, ◌+◌, drop}
+use Rattle.std.specs.Prelude.{Err, Ok, List, [], ◌++◌, ℕ, ◌+◌, drop}
 use Rattle.fields.specs.declared.Field.{Field}
-use Rattle.fields.specs.Leaf.{Leaf}
-use Rattle.fields.specs.Leaf.{Fine, Bad}
+use Rattle.fields.specs.Leaf.{Leaf, Fine, Bad}
 
 pub data Plan : Type 0 where
   end : Plan

@@ -9,10 +9,10 @@ pub fn two_of(lead: Field, zero: Field, first: Field, second: Field) -> Shape
     ensures { result ≡ two_of lead zero first second }
 {
     Shape {
-        lead: lead,
-        zero: zero,
-        first: first,
-        second: second,
+        lead,
+        zero,
+        first,
+        second,
         counted: false,
         one: Field::Nothing,
         two: Field::Nothing,
@@ -25,13 +25,13 @@ pub fn many_of(lead: Field, zero: Field, first: Field, one: Field, two: Field, l
     ensures { result ≡ many_of lead zero first one two last }
 {
     Shape {
-        lead: lead,
-        zero: zero,
-        first: first,
+        lead,
+        zero,
+        first,
         second: Field::Nothing,
         counted: true,
-        one: one,
-        two: two,
-        last: last,
+        one,
+        two,
+        last,
     }
 }

@@ -80,23 +80,6 @@ module _ (row pool : List ℕ) where
 
   -- ---- an extern name without options: its words, its size and its bytes
 
-  pub bare_words : word row 3 + word row 4 + word row 5 + (word row 6 + word row 7 + word row 8) + (word row 9 + word row 10 + word row 11) ≡ 0
-      → option_words (drop 1 row) ≡ 0
-  bare_words e =
-      omega (
-        arith,
-        e,
-        get_or-drop 1 row 2 0,
-        get_or-drop 1 row 3 0,
-        get_or-drop 1 row 4 0,
-        get_or-drop 1 row 5 0,
-        get_or-drop 1 row 6 0,
-        get_or-drop 1 row 7 0,
-        get_or-drop 1 row 8 0,
-        get_or-drop 1 row 9 0,
-        get_or-drop 1 row 10 0,
-      )
-
   pub bare_size : option_words (drop 1 row) ≡ 0
       → ((one : ℕ) → Some one ≡ right_size pool field.Name (word row 1 ∷ word row 2 ∷ []) → Some (1 + one) ≡ right_size pool field.ExternName (drop 1 row))
       × (None ≡ right_size pool field.Name (word row 1 ∷ word row 2 ∷ []) → None ≡ right_size pool field.ExternName (drop 1 row))

@@ -1,7 +1,6 @@
 -- Writing an import row.
 use Rattle.fields.specs.declared.Shape.{Shape}
-use Rattle.std.specs.Prelude.{Option}
-use Rattle.std.specs.Prelude.{List, ℕ}
+use Rattle.std.specs.Prelude.{Option, List, ℕ}
 use Rattle.fields.specs.Answer.{Answer}
 use Rattle.fields.specs.Words.{word}
 use Rattle.writing.specs.Row.{measured_row, write_row}

@@ -13,15 +13,15 @@ use Rattle.fields.specs.Read as read
 use Rattle.fields.specs.Answers.{left_row}
 use Rattle.fields.specs.Table.{shape_in}
 use Rattle.reading.specs.Read.{read_item, scanned_item, refusal_of}
-use Rattle.reading.specs.inside.Try.{Tried}
-use Rattle.reading.specs.inside.Try.{Item}
+use Rattle.reading.specs.inside.Try.{Tried, Item}
 use Rattle.reading.specs.Seen.{within}
 use Rattle.reading.specs.inside.Tried.{left_tried, tried_found}
 use Rattle.reading.proofs.TriedLaws.{within-limits, call_done, call_not}
 use Rattle.items.proofs.OnceLaws.{call_outside-one}
 use Rattle.numbers.proofs.Impossible.{impossible}
 use Rattle.instances.specs.Write.{core_shape_of, shape_of}
-use Rattle.instance_items.specs.ReadInstance.{core_kind_of, some_kind, read_core_instance, kind_of, read_instance}
+use Rattle.instance_items.specs.ReadInstance.{core_kind_of, read_core_instance, kind_of, read_instance}
+use Rattle.instance_items.specs.inside.Kind.{some_kind}
 use Rattle.instance_items.specs.inside.Group.{group_one, group_two, shape_by, Begins}
 
 -- ---- the kinds of first bytes

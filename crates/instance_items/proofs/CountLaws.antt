@@ -18,8 +18,7 @@ use Rattle.numbers.specs.Seen.{seen}
 use Rattle.numbers.proofs.SeenLaws.{seen_none}
 use Rattle.fields.specs.declared.Field.{Field}
 use Rattle.fields.specs.declared.Field.TheVariants as field
-use Rattle.fields.specs.Leaf.{Leaf}
-use Rattle.fields.specs.Leaf.{Fine, Bad}
+use Rattle.fields.specs.Leaf.{Leaf, Fine, Bad}
 use Rattle.fields.specs.declared.Refusal.{Refusal}
 use Rattle.fields.specs.declared.Refusal.TheVariants as refusal
 use Rattle.fields.specs.declared.Shape.{Shape}
@@ -206,7 +205,7 @@ module _ (kind g : ℕ) (input : List ℕ) (some : 0 < length input) (first : by
     where
       go : (x : Taken) → take_unsigned (drop 1 input) ≡ x
           → (w : Refusal) × (j : ℕ) × (along (scan 1 g) (opening (instantiate_of kind)) input 0 1 ≡ Bad w j)
-      go (Ok taken2) e = absurd (h taken2.value taken2.took e)
+      go (Ok got) e = absurd (h got.value got.took e)
       go taken.Cut e = (refusal.Cut, 1 + length (drop 1 input), rw (lead_is, e))
       go taken.Bad e = (refusal.Number, 1 + 0, rw (lead_is, e))
 

@@ -20,8 +20,7 @@ use Rattle.numbers.proofs.LebLaws.{taken-inside}
 use Rattle.numbers.proofs.Impossible.{impossible}
 use Rattle.fields.specs.declared.Field.{Field}
 use Rattle.fields.specs.declared.Field.TheVariants as field
-use Rattle.fields.specs.Leaf.{Leaf}
-use Rattle.fields.specs.Leaf.{Fine, Bad}
+use Rattle.fields.specs.Leaf.{Leaf, Fine, Bad}
 use Rattle.fields.specs.declared.Refusal.TheVariants.{Limit}
 use Rattle.fields.specs.Words.{word, wide}
 use Rattle.reading.specs.Fill.{size_in, index, fill, fill_name, fill_slot, fill_slots, fill_extern}
@@ -123,7 +122,7 @@ size_small : (bs : List ℕ) → size_in (take_unsigned bs) ≤ 5
 size_small bs = go (take_unsigned bs) refl
   where
     go : (t : Taken) → take_unsigned bs ≡ t → size_in t ≤ 5
-    go (Ok taken2) e = (taken-inside u32 bs taken2.value taken2.took e).1
+    go (Ok got) e = (taken-inside u32 bs got.value got.took e).1
     go taken.Cut e = omega arith
     go taken.Bad e = omega arith
 

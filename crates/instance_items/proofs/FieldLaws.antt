@@ -211,7 +211,7 @@ unfolding scan_index pair_of
 sorted_is sort k bs = go (take_unsigned (drop k bs))
   where
     go : (t : Taken) → option_map (sort_is sort k) (seen t) ≡ pair_of (past k (numbered (drop k bs) t 2)) (sort ∷ value_in t ∷ [])
-    go (Ok taken2) = refl
+    go (Ok got) = refl
     go taken.Cut = refl
     go taken.Bad = refl
 
@@ -236,7 +236,7 @@ module _ (g : ℕ) (bs : List ℕ) (some : 0 < length bs) where
   argument_seen first = simp (lt-leb (length bs) 0 some, first) (go (take_unsigned (drop 1 bs)))
     where
       go : (t : Taken) → option_map argument_is (seen t) ≡ pair_of (past 1 (numbered (drop 1 bs) t 1)) (value_in t ∷ [])
-      go (Ok taken2) = refl
+      go (Ok got) = refl
       go taken.Cut = refl
       go taken.Bad = refl
 

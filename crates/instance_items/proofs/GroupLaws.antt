@@ -9,8 +9,7 @@ use lib.ListN.{length, take, drop, length-drop}
 use lib.Seq.{sets}
 use Rattle.numbers.proofs.BytesLaws.{to_end, sets_append}
 use Rattle.fields.specs.declared.Field.{Field}
-use Rattle.fields.specs.Leaf.{Leaf}
-use Rattle.fields.specs.Leaf.{Fine}
+use Rattle.fields.specs.Leaf.{Leaf, Fine}
 use Rattle.fields.specs.Words.{wide}
 use Rattle.fields.specs.Shape.{widths}
 use Rattle.reading.specs.Fill.{fill}

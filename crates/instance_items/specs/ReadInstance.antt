@@ -1,5 +1,5 @@
 -- Reading a core instance, and an instance: the kind is told by the first byte.
-use Rattle.std.specs.Prelude.{ℕ, cond, List, eqb, Option, Some, None}
+use Rattle.std.specs.Prelude.{ℕ, cond, List, eqb}
 use Rattle.fields.specs.Answers.{LeftRow}
 use Rattle.reading.specs.Read.{read_item}
 use Rattle.reading.specs.Scan.{byte}
@@ -8,10 +8,6 @@ use Rattle.instances.specs.Write.{core_shape_of, shape_of}
 -- core:instanceexpr ::= 0x00 .. | 0x01 ..; 0 is no instance's kind
 unfoldable pub core_kind_of : ℕ → ℕ
 core_kind_of b = cond (eqb b 0x00) 18 (cond (eqb b 0x01) 20 0)
-
--- a kind, if it is one
-abbrev pub some_kind : ℕ → Option ℕ
-some_kind k = cond (eqb k 0) None (Some k)
 
 unfoldable pub read_core_instance : ℕ → List ℕ → List ℕ → LeftRow
 read_core_instance g input row = read_item (core_shape_of (core_kind_of (byte input 0))) (core_kind_of (byte input 0)) 1 g input row

@@ -1,2 +1,3 @@
 pub mod Extern
 pub mod Group
+pub mod Kind

@@ -1,6 +1,5 @@
 // An instance of a kind: its index where it has one, a count and as many groups.
-ghost use Rattle.std.specs.Prelude.{◌<◌, ◌≤◌, ◌∷◌, [], ◌++◌, ◌≡◌, length, take};
-ghost use Rattle.std.specs.Prelude.{Some};
+ghost use Rattle.std.specs.Prelude.{◌<◌, ◌≤◌, ◌∷◌, [], ◌++◌, ◌≡◌, length, take, Some};
 ghost use Rattle.reading.specs.inside.Stages.{counted_scan, counted_fill};
 ghost use Rattle.reading.specs.Scan.{byte};
 ghost use Rattle.reading.specs.inside.Tried.{left_tried, tried, tried_found};

@@ -8,7 +8,8 @@ mod stores;
 
 ghost use Rattle.std.specs.Prelude.{◌≡◌};
 ghost use Rattle.fields.specs.Answers.{left_row};
-ghost use Rattle.instance_items.specs.ReadInstance.{core_kind_of, some_kind, read_core_instance, kind_of, read_instance};
+ghost use Rattle.instance_items.specs.ReadInstance.{core_kind_of, read_core_instance, kind_of, read_instance};
+ghost use Rattle.instance_items.specs.inside.Kind.{some_kind};
 
 use fields::Read;
 

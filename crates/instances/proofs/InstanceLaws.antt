@@ -1,6 +1,5 @@
 -- The kinds of instances: the shape of each, and its elements, as fields, seen and put.
-use Rattle.std.specs.Prelude.{Option, None, Some, IfSome, Ok}
-use Rattle.std.proofs.lemmas.Option.{IfSome_then}
+use Rattle.std.specs.Prelude.{None, Some}
 use Rattle.std.specs.Prelude.{◌≡◌, ℕ, ◌+◌, ◌-◌, ◌<◌, ◌≤◌, List, [], ◌∷◌, ◌++◌, length, take, drop}
 use native.Mathlib.Omega.{arith}
 use mathlib.Core.Path.{refl, sym, ap, ◌∙◌, subst}
@@ -13,11 +12,8 @@ use Rattle.numbers.specs.Stored.{Stored}
 use Rattle.fields.specs.declared.Field.{Field}
 use Rattle.fields.specs.declared.Field.TheVariants as field
 use Rattle.fields.specs.Words.{word, wide}
-use Rattle.fields.specs.Shape.{repeated, widths}
-use Rattle.fields.specs.Table.{Line, elements, shape_in}
-use Rattle.fields.specs.declared.Shape.{Shape}
-use Rattle.writing.specs.Row.{measured_row}
-use Rattle.writing.proofs.KindLaws.{measured_as}
+use Rattle.fields.specs.Shape.{widths}
+use Rattle.fields.specs.Table.{elements, shape_in}
 use Rattle.fields.proofs.NearLaws.{first_word, second_word}
 use Rattle.writing.specs.Binary.{name, externname, extern_part, argument, coresortidx, sortidx, bytes}
 use Rattle.writing.specs.Judge.{flaw}
@@ -26,7 +22,7 @@ use Rattle.writing.specs.inside.Rows.{Known, Rights}
 use Rattle.writing.specs.inside.Wrote.{Wrote}
 use Rattle.writing.proofs.FlawLaws.{below_is}
 use Rattle.writing.proofs.TableLaws.{strings}
-use Rattle.writing.proofs.GroupLaws.{Going, going_start, Putting, putting_start, word_at}
+use Rattle.writing.proofs.GroupLaws.{Going, Putting, word_at}
 use Rattle.instances.specs.Table.{coreinstantiatearg, coreinlineexport, instantiatearg, inlineexport}
 use Rattle.instances.specs.Write.{core_shape_of, shape_of}
 use Rattle.instances.specs.inside.Head.{instantiate_shape, export_items_shape}
@@ -58,11 +54,6 @@ kind_21 = refl
 pub kind_other : {B : Type 0} {k : ℕ} → (B × (k ≡ 19 → ⊥)) × (k ≡ 21 → ⊥) → shape_of k ≡ None
 unfolding shape_in
 kind_other ((b, n), m) = simp (ne_eqb _ _ n, ne_eqb _ _ m)
-
--- a size that was found by the shape of a row's kind is that of the row
-pub sized_as : (ls : List Line) {i j k : ℕ} {found : Option Shape} → shape_in ls k ≡ found → i ≡ j → i ≡ k → (row pool : List ℕ) (o : Option ℕ)
-    → IfSome o (λ r. measured_row found row pool ≡ Ok r) → IfSome o (λ r. measured_row (shape_in ls j) row pool ≡ Ok r)
-sized_as ls e f h row pool o s = IfSome_then o s (λ r m. measured_as ls e f h row pool m)
 
 -- ---- elements as fields
 
@@ -150,26 +141,6 @@ module _ (pool row : List ℕ) (at : ℕ) where
     unfolding flaw bytes
     sort_at s = let t = moved field.SortIndex s in record { right = t.right; size = t.size }
 
--- ---- loops over n elements: n - i are still to be done, first all of them, and then one less
-
-module _ (pool : List ℕ) (g : List Field) (element : List ℕ → List ℕ) (row : List ℕ) (from n base : ℕ) where
-  pub seen_none : (most : ℕ) → Going pool g element most row from n base (n - 0) from base
-  seen_none most =
-      subst (λ d. Going pool g element most row from n base d from base) (omega arith) (going_start pool g element most row from n base)
-
-  pub put_none : (old : List ℕ) → Rights pool (repeated n g) (drop from row) → Putting pool g element row from n old base (n - 0) from base old
-  put_none old r =
-      subst (λ d. Putting pool g element row from n old base d from base old) (omega arith) (putting_start pool g element row from n old base r)
-
-module _ {pool : List ℕ} {g : List Field} {element : List ℕ → List ℕ} {row : List ℕ} {from n base : ℕ} (i : ℕ) where
-  seen_one : {most at made : ℕ} → Going pool g element most row from n base (n - i - 1) at made
-      → Going pool g element most row from n base (n - (i + 1)) at made
-  seen_one {most} {at} {made} k = subst (λ d. Going pool g element most row from n base d at made) (omega arith) k
-
-  pub put_one : {old new : List ℕ} {at to : ℕ} → Putting pool g element row from n old base (n - i - 1) at to new
-      → Putting pool g element row from n old base (n - (i + 1)) at to new
-  put_one {old} {new} {at} {to} k = subst (λ d. Putting pool g element row from n old base d at to new) (omega arith) k
-
 -- ---- elements that are seen
 
 -- an extern name of a small pool has few bytes
@@ -184,8 +155,8 @@ module _ {pool row : List ℕ} {from n base at made : ℕ} (i : ℕ) where
       → Going pool (field.Name ∷ field.Argument ∷ []) (coreinstantiatearg pool) 65547 row from n base (n - (i + 1)) (at + 3) (made + (one + (1 + two)))
   unfolding wide widths
   core_argument_next k h small e d =
-      seen_one i (known_next field.Name field.Argument pool (core_argument_element pool) k (omega arith) (name_at-known pool row at e) (argument_at pool row (at + 2) d) refl
-      (omega (arith, name_at-small pool row at small e, d, (size_bounds 128 (word row (at + 2))).1)) refl)
+      known_next field.Name field.Argument pool (core_argument_element pool) k (omega arith) (name_at-known pool row at e) (argument_at pool row (at + 2) d) refl
+      (omega (arith, name_at-small pool row at small e, d, (size_bounds 128 (word row (at + 2))).1)) refl
 
   pub core_item_next : Going pool (field.Name ∷ field.CoreSortIndex ∷ []) (coreinlineexport pool) 65547 row from n base (n - i) at made → i < n
       → length pool ≤ 65536 → {one two : ℕ} → Some one ≡ right_size pool field.Name (word row at ∷ word row (at + 1) ∷ [])
@@ -194,9 +165,9 @@ module _ {pool row : List ℕ} {from n base at made : ℕ} (i : ℕ) where
   unfolding wide widths
   core_item_next k h small {one} {two} e s few =
       let next : at + 3 ≡ at + 2 + 1 = omega arith in
-      seen_one i (known_next field.Name field.CoreSortIndex pool (core_item_element pool) k (omega arith) (name_at-known pool row at e)
+      known_next field.Name field.CoreSortIndex pool (core_item_element pool) k (omega arith) (name_at-known pool row at e)
       (core_sort_at pool row (at + 2) (subst (λ j. Known pool field.CoreSortIndex (word row (at + 2) ∷ word row j ∷ []) two) next s)) refl
-      (omega (arith, name_at-small pool row at small e)) refl)
+      (omega (arith, name_at-small pool row at small e)) refl
 
   pub argument_next : Going pool (field.Name ∷ field.SortIndex ∷ []) (instantiatearg pool) 65548 row from n base (n - i) at made → i < n
       → length pool ≤ 65536 → {one two : ℕ} → Some one ≡ right_size pool field.Name (word row at ∷ word row (at + 1) ∷ [])
@@ -205,9 +176,9 @@ module _ {pool row : List ℕ} {from n base at made : ℕ} (i : ℕ) where
   unfolding wide widths
   argument_next k h small {one} {two} e s few =
       let next : at + 3 ≡ at + 2 + 1 = omega arith in
-      seen_one i (known_next field.Name field.SortIndex pool (argument_element pool) k (omega arith) (name_at-known pool row at e)
+      known_next field.Name field.SortIndex pool (argument_element pool) k (omega arith) (name_at-known pool row at e)
       (sort_at pool row (at + 2) (subst (λ j. Known pool field.SortIndex (word row (at + 2) ∷ word row j ∷ []) two) next s)) refl
-      (omega (arith, name_at-small pool row at small e)) refl)
+      (omega (arith, name_at-small pool row at small e)) refl
 
   pub item_next : Going pool (field.ExternName ∷ field.SortIndex ∷ []) (inlineexport pool) 360478 row from n base (n - i) at made → i < n
       → length pool ≤ 65536 → {one two : ℕ} → Some one ≡ right_size pool field.ExternName (take (length row - at) (drop at row))
@@ -217,8 +188,8 @@ module _ {pool row : List ℕ} {from n base at made : ℕ} (i : ℕ) where
   item_next k h small {one} {two} e s short =
       let next : at + 12 ≡ at + 11 + 1 = omega arith in
       let few = extern_few pool row at small e in
-      seen_one i (known_next field.ExternName field.SortIndex pool (item_element pool) k (omega arith) (extern_known pool row at e)
-      (sort_at pool row (at + 11) (subst (λ j. Known pool field.SortIndex (word row (at + 11) ∷ word row j ∷ []) two) next s)) refl (omega arith) refl)
+      known_next field.ExternName field.SortIndex pool (item_element pool) k (omega arith) (extern_known pool row at e)
+      (sort_at pool row (at + 11) (subst (λ j. Known pool field.SortIndex (word row (at + 11) ∷ word row j ∷ []) two) next s)) refl (omega arith) refl
 
 -- ---- elements that are put: what code puts behind the name is what the element has there
 

@@ -1,7 +1,6 @@
 -- Writing a row of a core instance, and of an instance.
 use Rattle.fields.specs.declared.Shape.{Shape}
-use Rattle.std.specs.Prelude.{Option}
-use Rattle.std.specs.Prelude.{ℕ, List}
+use Rattle.std.specs.Prelude.{Option, ℕ, List}
 use Rattle.fields.specs.Answer.{Answer}
 use Rattle.fields.specs.Words.{word}
 use Rattle.writing.specs.Row.{measured_row, write_row}

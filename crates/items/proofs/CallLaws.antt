@@ -1,8 +1,6 @@
 -- From what reading by the first byte leaves to what `types::read` answers, within the limits and outside.
-use Rattle.std.specs.Prelude.{None}
-use Rattle.std.specs.Prelude.{Some}
+use Rattle.std.specs.Prelude.{None, Some, Option}
 use Rattle.fields.specs.declared.Shape.{Shape}
-use Rattle.std.specs.Prelude.{Option}
 use Prim.Native.Nat.{ℕ, ◌≤◌, ◌<◌, ◌^◌}
 use native.Mathlib.Omega.{arith}
 use mathlib.Core.Path.{◌≡◌, refl, sym, ap, ◌∙◌, subst}
@@ -23,8 +21,7 @@ use Rattle.fields.specs.Read as read
 use Rattle.fields.specs.declared.Refusal.TheVariants as refusal
 use Rattle.fields.specs.Answers.{left_row}
 use Rattle.reading.specs.Read.{read_found, read_item, scanned_found, scanned_item, refusal_of}
-use Rattle.reading.specs.inside.Try.{Tried}
-use Rattle.reading.specs.inside.Try.{Item}
+use Rattle.reading.specs.inside.Try.{Tried, Item}
 use Rattle.reading.specs.Seen.{within}
 use Rattle.reading.specs.inside.Tried.{left_tried, tried_found}
 use Rattle.reading.proofs.TriedLaws.{within-limits, call_done, call_not, call_outside, lead_newer}

@@ -19,8 +19,7 @@ use Rattle.numbers.proofs.BytesLaws.{to_end, sets_append}
 use Rattle.numbers.proofs.SeenLaws.{seen-some, seen_none}
 use Rattle.fields.specs.declared.Field.{Field}
 use Rattle.fields.specs.declared.Field.TheVariants as field
-use Rattle.fields.specs.Leaf.{Leaf}
-use Rattle.fields.specs.Leaf.{Fine}
+use Rattle.fields.specs.Leaf.{Leaf, Fine}
 use Rattle.fields.specs.declared.Shape.{Shape}
 use Rattle.reading.specs.Fill.{fill}
 use Rattle.fields.specs.Words.{wide}

@@ -14,8 +14,7 @@ use Rattle.numbers.proofs.BytesLaws.{to_end}
 use Rattle.numbers.proofs.SeenLaws.{short-some}
 use Rattle.fields.specs.declared.Field.{Field}
 use Rattle.fields.specs.declared.Field.TheVariants as field
-use Rattle.fields.specs.Leaf.{Leaf}
-use Rattle.fields.specs.Leaf.{Fine}
+use Rattle.fields.specs.Leaf.{Leaf, Fine}
 use Rattle.fields.specs.Words.{wide}
 use Rattle.reading.specs.Scan.{byte, then_zero, scan_optional, scan}
 use Rattle.fields.specs.Shape.{repeated, widths}
@@ -73,11 +72,6 @@ value-short g input at {x} e =
 -- ---- a loop over groups, i of them done
 
 module _ {g : ℕ} {input : List ℕ} {gs : List Field} {n from : ℕ} where
-  pub going_from : from ≤ length input → Going g input gs n from (n - 0) from
-  going_from h =
-      let same : n ≡ n - 0 = omega arith in
-      subst (λ (k : ℕ). Going g input gs n from k from) same (going_start h)
-
   pub going_on : (i : ℕ) {at : ℕ} → Going g input gs n from (n - i - 1) at → Going g input gs n from (n - (i + 1)) at
   going_on i {at} o =
       let same : n - i - 1 ≡ n - (i + 1) = omega arith in

@@ -12,8 +12,7 @@ use Rattle.numbers.specs.Seen.{seen}
 use Rattle.numbers.proofs.BytesLaws.{to_end}
 use Rattle.fields.specs.declared.Field.{Field}
 use Rattle.fields.specs.declared.Field.TheVariants as field
-use Rattle.fields.specs.Leaf.{Leaf}
-use Rattle.fields.specs.Leaf.{Fine}
+use Rattle.fields.specs.Leaf.{Leaf, Fine}
 use Rattle.reading.specs.Fill.{fill}
 use Rattle.fields.specs.Words.{wide}
 use Rattle.fields.specs.inside.Run.{along, makes}

@@ -19,8 +19,7 @@ use Rattle.numbers.proofs.BytesLaws.{to_end}
 use Rattle.numbers.proofs.LebLaws.{taken-inside}
 use Rattle.fields.proofs.OutcomeLaws.{fine-same}
 use Rattle.fields.specs.declared.Field.TheVariants as field
-use Rattle.fields.specs.Leaf.{Leaf}
-use Rattle.fields.specs.Leaf.{Fine, Bad}
+use Rattle.fields.specs.Leaf.{Leaf, Fine, Bad}
 use Rattle.fields.specs.declared.Refusal.TheVariants.{Cut, Code}
 use Rattle.fields.specs.Words.{word, wide}
 use Rattle.reading.specs.Fill.{size_in, index, fill, fill_name, fill_slot, fill_slots, fill_extern}
@@ -42,7 +41,7 @@ size_small : (bs : List ℕ) → size_in (take_unsigned bs) ≤ 5
 size_small bs = go (take_unsigned bs) refl
   where
     go : (t : Taken) → take_unsigned bs ≡ t → size_in t ≤ 5
-    go (Ok taken2) e = (taken-inside u32 bs taken2.value taken2.took e).1
+    go (Ok got) e = (taken-inside u32 bs got.value got.took e).1
     go taken.Cut e = omega arith
     go taken.Bad e = omega arith
 
@@ -359,7 +358,7 @@ module _ (g : ℕ) (input : List ℕ) where
         count_none d r q = head_wrong r (subst Wrong (sym counts) (go (take_unsigned (drop (1 + n.took) input)) d)) q
           where
             go : (t : Taken) → None ≡ seen t → Wrong (counted (length input) t (1 + n.took))
-            go (Ok taken2) x = impossible cc
+            go (Ok got) x = impossible cc
             go taken.Cut x = tt
             go taken.Bad x = tt
 

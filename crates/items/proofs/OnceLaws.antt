@@ -13,8 +13,7 @@ use lib.ListN.{length, get_or, drop, set, length-set, length-drop}
 use lib.Seq.{sets, length-sets}
 use borrow.Author.Tests.{lt-leb, le-leb, ltb-false, eqb-false}
 use Rattle.fields.specs.declared.Field.TheVariants as field
-use Rattle.fields.specs.Leaf.{Leaf}
-use Rattle.fields.specs.Leaf.{Fine, Bad}
+use Rattle.fields.specs.Leaf.{Leaf, Fine, Bad}
 use Rattle.fields.specs.Read as read
 use Rattle.fields.specs.declared.Refusal.TheVariants as refusal
 use Rattle.fields.specs.Words.{word, wide}
@@ -26,8 +25,7 @@ use Rattle.reading.specs.Scan.{scan, scan_extern}
 use Rattle.fields.specs.Table.{shape_in}
 use Rattle.fields.specs.Walk.{next, took}
 use Rattle.reading.proofs.FilledLaws.{fill-length}
-use Rattle.reading.specs.inside.Try.{Tried}
-use Rattle.reading.specs.inside.Try.{Item}
+use Rattle.reading.specs.inside.Try.{Tried, Item}
 use Rattle.reading.specs.Seen.{within, roomy}
 use Rattle.reading.specs.inside.Tried.{left_tried, tried, tried_found}
 use Rattle.reading.proofs.StepLaws.{scan-takes, fill_at}

@@ -16,8 +16,7 @@ use Rattle.numbers.specs.Seen.{seen}
 use Rattle.numbers.proofs.Impossible.{impossible}
 use Rattle.numbers.proofs.SeenLaws.{seen-some}
 use Rattle.fields.specs.declared.Field.TheVariants as field
-use Rattle.fields.specs.Leaf.{Leaf}
-use Rattle.fields.specs.Leaf.{Fine}
+use Rattle.fields.specs.Leaf.{Leaf, Fine}
 use Rattle.reading.specs.Fill.{value_in, index, fill, fill_value, fill_reference}
 use Rattle.fields.specs.Words.{wide}
 use Rattle.reading.specs.Scan.{byte, past, numbered, scan, scan_index, scan_value, scan_module, scan_bound, scan_reference}
@@ -45,7 +44,7 @@ module _ (bs : List ℕ) where
   index_none e k ws = go (take_unsigned bs) e
     where
       go : (t : Taken) → None ≡ seen t → None ≡ three_of (past k (numbered bs t 3)) ws
-      go (Ok taken2) e = impossible cc
+      go (Ok got) e = impossible cc
       go taken.Cut e = refl
       go taken.Bad e = refl
 
@@ -66,7 +65,7 @@ module _ (sort k : ℕ) (bs : List ℕ) where
   indexed_is_lem = go (take_unsigned (drop k bs))
     where
       go : (t : Taken) → option_map (indexed_is sort k) (seen t) ≡ three_of (past k (numbered (drop k bs) t 3)) (sort ∷ value_in t ∷ 0 ∷ [])
-      go (Ok taken2) = refl
+      go (Ok got) = refl
       go taken.Cut = refl
       go taken.Bad = refl
 

@@ -19,8 +19,7 @@ use Rattle.numbers.proofs.SeenLaws.{short-some}
 use Rattle.fields.proofs.OutcomeLaws.{fine-same}
 use Rattle.fields.specs.declared.Field.{Field}
 use Rattle.fields.specs.declared.Field.TheVariants as field
-use Rattle.fields.specs.Leaf.{Leaf}
-use Rattle.fields.specs.Leaf.{Fine, Bad}
+use Rattle.fields.specs.Leaf.{Leaf, Fine, Bad}
 use Rattle.fields.specs.declared.Refusal.TheVariants.{Code}
 use Rattle.reading.specs.Fill.{fill}
 use Rattle.fields.specs.Words.{wide}

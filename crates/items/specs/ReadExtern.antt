@@ -1,8 +1,6 @@
 -- Reading an extern name by value: where it ends, and its words, whose starts are counted from its own first byte.
-use Rattle.std.specs.Prelude.{Err, Ok, Option, Some, None, IsSomeAnd}
-use Rattle.std.specs.Prelude.{ℕ, ◌<◌, cond, List, [], ◌∷◌, ◌++◌, ◌≡◌}
-use Rattle.fields.specs.Leaf.{Leaf}
-use Rattle.fields.specs.Leaf.{Bad}
+use Rattle.std.specs.Prelude.{Err, Ok, Option, Some, None, IsSomeAnd, ℕ, ◌<◌, cond, List, [], ◌∷◌, ◌++◌, ◌≡◌}
+use Rattle.fields.specs.Leaf.{Leaf, Bad}
 use Rattle.fields.specs.declared.Refusal.TheVariants.{Limit}
 use Rattle.reading.specs.Fill.{fill_extern}
 use Rattle.reading.specs.Scan.{scan_extern}

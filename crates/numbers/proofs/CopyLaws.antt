@@ -1,7 +1,7 @@
 -- Bytes copied in chunks, one after the other or overlapping: what stands in the buffer on the way (`Held`), and what each chunk
 -- adds to it. The laws are over the chunk's length. Assumes nothing.
 use Rattle.std.proofs.Common.{◌≡◌, ℕ, zero, suc, ◌+◌, ◌-◌, ◌<◌, ◌≤◌, List, [], ◌∷◌, length, get_or, take, drop, set, sym, refl, ap, ◌∙◌, add-zero, add-suc, suc-add, zero-add, arith, length-drop, length-take-le, take_all, drop-cons, take-take, set-set}
-use lib.Seq.{sets, set_comm, take-nil, take-length, length-sets}
+use lib.Seq.{sets, set_comm, take-nil, length-sets}
 use Rattle.numbers.proofs.BytesLaws.{sets_back}
 
 -- ---- runs that overlap
@@ -73,10 +73,6 @@ pub first-and-last :
     (s old : List ℕ) (at n : ℕ) {mid new : List ℕ} → n ≤ length s → length s ≤ n + n → mid ≡ sets old at (take n s)
     → new ≡ sets mid (at + (length s - n)) (take n (drop (length s - n) s)) → new ≡ sets old at s
 first-and-last s old at n h g p q = held-last n (held {old = old} {at = at} {s = s} {k = n} p) h h g q
-
--- one chunk of all bytes
-pub all_at_once : (s old : List ℕ) (at : ℕ) {new : List ℕ} → new ≡ sets old at (take (length s) s) → new ≡ sets old at s
-all_at_once s old at e = e ∙ ap (sets old at) (take-length s)
 
 -- ---- one chunk
 

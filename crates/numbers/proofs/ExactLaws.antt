@@ -6,8 +6,7 @@ use Rattle.numbers.specs.Exact.{TakenExactly}
 use Rattle.numbers.specs.Integers as integer
 use Rattle.numbers.specs.Integers.{Integer, Form, u32, s33}
 use Rattle.numbers.specs.Leb.{more, number_in, within32, take_in}
-use Rattle.numbers.specs.Taken.{Taken}
-use Rattle.numbers.specs.Taken.{Value, Cut, Bad}
+use Rattle.numbers.specs.Taken.{Taken, Value, Cut, Bad}
 use Rattle.numbers.proofs.IntegerLaws.{bits, integer-size}
 use Rattle.numbers.proofs.Impossible.{impossible}
 use Rattle.numbers.proofs.OutcomeLaws.{value-same}

@@ -2,8 +2,7 @@
 use Rattle.std.specs.Prelude.{Ok}
 use Rattle.std.proofs.Common.{◌≡◌, ℕ, zero, suc, ◌+◌, ◌-◌, ◌*◌, ◌^◌, ◌<◌, ◌≤◌, List, length, get_or, drop, refl, ap, ◌∙◌, mul-le-mul_right, mul_assoc, mul_comm, add-mul, add-one, arith, drop_of_length-le, drop-cons, le-ltb, lt-ltb}
 use Rattle.numbers.specs.Leb.{more, number_in, within32, take_in}
-use Rattle.numbers.specs.Taken.{Taken}
-use Rattle.numbers.specs.Taken.{Value, Cut, Bad}
+use Rattle.numbers.specs.Taken.{Taken, Value, Cut, Bad}
 use Rattle.numbers.proofs.Shortest.{room}
 
 pub number_end : (end k : ℕ) (s : List ℕ) (i : ℕ) → length s ≤ i → number_in end (suc k) (drop i s) ≡ Cut

@@ -6,8 +6,7 @@ use Rattle.numbers.specs.Integers.{Form, u32, s33}
 use Rattle.numbers.specs.Leb.{more, number_in, within32, take_in, take_unsigned, take_signed}
 use Rattle.numbers.specs.Seen.{number, seen, short_signed}
 use Rattle.numbers.specs.declared.leb.Number.{Number}
-use Rattle.numbers.specs.Taken.{Taken}
-use Rattle.numbers.specs.Taken.{Value, Cut, Bad}
+use Rattle.numbers.specs.Taken.{Taken, Value, Cut, Bad}
 use Rattle.numbers.proofs.ExactLaws.{taken-small}
 use Rattle.numbers.proofs.LebLaws.{taken-inside, take-one}
 use Rattle.numbers.proofs.Impossible.{impossible}

@@ -1,12 +1,10 @@
 -- Laws of the table, of `rest` and of `goes`: a first byte's row, a byte where some are to follow, and a sequence within a name.
-use Rattle.std.specs.Prelude.{Ok}
-use Rattle.std.specs.Prelude.{Err}
-use Rattle.std.proofs.Common.{◌≡◌, ℕ, zero, suc, ◌+◌, ◌<◌, ◌≤◌, Bool, true, false, ◌&&◌, T, ltb, leb, List, [], ◌∷◌, length, get_or, drop, sym, refl, ◌∙◌, subst, add-one, arith, ltb→lt, leb→le, drop_of_length-le, drop-cons, ltb-false, ltb-true, le-ltb, lt-ltb, le-leb}
+use Rattle.std.specs.Prelude.{Ok, Err}
+use Rattle.std.proofs.Common.{◌≡◌, ℕ, zero, suc, ◌+◌, ◌<◌, ◌≤◌, Bool, true, false, ◌&&◌, T, ltb, leb, List, [], ◌∷◌, length, get_or, drop, sym, refl, ◌∙◌, subst, add-one, arith, ltb→lt, leb→le, drop_of_length-le, drop-cons, ltb-false, ltb-true, lt-ltb, le-leb}
 use borrow.Author.Tests.{lt-leb}
 use Rattle.numbers.specs.Text.{Range, ◌to◌, Row, row, table, among, first_in, Next, Bad, step, rest, goes}
 use Rattle.numbers.specs.inside.Sequences.{follows, Ends}
-use Rattle.numbers.specs.inside.Sequence.{Sequence}
-use Rattle.numbers.specs.inside.Sequence.{Breaks}
+use Rattle.numbers.specs.inside.Sequence.{Sequence, Breaks}
 use Rattle.numbers.proofs.Impossible.{impossible}
 
 -- ---- a byte in low..high
@@ -159,12 +157,6 @@ unfolding rest
 ended s i h = rw (drop_of_length-le s h)
 
 -- ---- a byte at k in low..high
-
-pub follow_past : (low high : ℕ) (s : List ℕ) (k : ℕ) → length s ≤ k → follows s k low high ≡ false
-follow_past low high s k h = rw (le-ltb k (length s) h)
-
-pub follow_below : (low high : ℕ) (s : List ℕ) (k : ℕ) → get_or s k 0 < low → follows s k low high ≡ false
-follow_below low high s k h = rw (among_below (low to high) (get_or s k 0) h) (and_false (ltb k (length s)))
 
 pub follow_last : (low high : ℕ) (s : List ℕ) (k : ℕ) → k < length s → low ≤ get_or s k 0 → follows s k low high ≡ leb (get_or s k 0) high
 follow_last low high s k h p = rw (lt-ltb k (length s) h, le-leb low (get_or s k 0) p)

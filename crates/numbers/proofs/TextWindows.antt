@@ -120,13 +120,6 @@ windows-text s all b e = on (length s) s 0 all e (omega arith) ((λ p. b.0), λ 
 
 -- ---- chunks
 
--- one window more
-pub windows-next : (s : List ℕ) (i k : ℕ) → Windows s i k → Window s (i + k) → Windows s i (k + 1)
-windows-next s i k all here j q = ⊎_elim (λ l. all j l) (λ l. subst (λ (n : ℕ). Window s (i + n)) (same l) here) (side j k)
-  where
-    same : k ≤ j → k ≡ j
-    same l = omega arith
-
 -- n windows from the first on, from a on and to the last cover them all
 pub windows-all : (s : List ℕ) (n a d : ℕ) → d + n + 2 ≡ length s → a ≤ n → d ≤ a + n → Windows s 0 n → Windows s a n → Windows s d n → All s
 windows-all s n a d h l m front middle back j q =

@@ -1,8 +1,7 @@
 -- Numbers laid on the bench: what each is put as, and what bytes are taken as, unsigned and signed, by computation.
 use Rattle.std.proofs.Common.{◌≡◌, ℕ, List, [], ◌∷◌, map, refl}
 use Rattle.numbers.specs.Leb.{bytes_of, unsigned, signed, more, number_in, within32, take_in, take_unsigned, take_signed}
-use Rattle.numbers.specs.Taken.{Taken}
-use Rattle.numbers.specs.Taken.{Value, Cut, Bad}
+use Rattle.numbers.specs.Taken.{Taken, Value, Cut, Bad}
 
 pub record Line : Type 0 where
   pub number : ℕ

@@ -1,9 +1,7 @@
 -- Bytes stored at a place of a lent buffer, and a part of the caller's bytes.
-use Rattle.std.specs.Prelude.{Ok}
-use Rattle.std.specs.Prelude.{ℕ, ◌+◌, ◌^◌, ◌<◌, cond, List, [], length, take, drop, nat_le, slice_index}
+use Rattle.std.specs.Prelude.{Ok, ℕ, ◌+◌, ◌^◌, ◌<◌, cond, List, [], length, take, drop, nat_le, slice_index}
 use Rattle.std.proofs.lemmas.List.Edits.{sets}
-use Rattle.numbers.specs.Stored.{Stored}
-use Rattle.numbers.specs.Stored.{Room}
+use Rattle.numbers.specs.Stored.{Stored, Room}
 
 -- each element is a byte
 abbrev pub Bytes : List ℕ → Type 0

@@ -1,10 +1,8 @@
 -- Integers as LEB128 bytes (WebAssembly core, 5.2.2): seven bits a byte, the lowest first, and 128 added to each byte that another one
 -- follows. `end` bounds the last byte: 128 in a u32, and 64 in an s33 that is not below zero, whose last byte leaves the sign's bit
 -- clear. Put in the shortest form; taken in every form of 32 bits and five bytes, those that zeros pad included (`Exact.antt`).
-use Rattle.std.specs.Prelude.{Ok}
-use Rattle.std.specs.Prelude.{ℕ, zero, suc, ◌+◌, ◌-◌, ◌*◌, ◌/◌, ◌%◌, ◌^◌, cond, List, [], ◌∷◌, nat_lt}
-use Rattle.numbers.specs.Taken.{Taken}
-use Rattle.numbers.specs.Taken.{Value, Cut, Bad}
+use Rattle.std.specs.Prelude.{Ok, ℕ, zero, suc, ◌+◌, ◌-◌, ◌*◌, ◌/◌, ◌%◌, ◌^◌, cond, List, [], ◌∷◌, nat_lt}
+use Rattle.numbers.specs.Taken.{Taken, Value, Cut, Bad}
 
 -- ---- putting
 

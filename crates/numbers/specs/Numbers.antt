@@ -1,9 +1,7 @@
 -- Document 01's number and value of each answer: 0 OK, 8 ROOM, 11 CUT, 13 NUMBER.
-use Rattle.std.specs.Prelude.{Err, Ok}
-use Rattle.std.specs.Prelude.{ℕ}
+use Rattle.std.specs.Prelude.{Err, Ok, ℕ}
 use Rattle.numbers.specs.Stored.{Stored}
-use Rattle.numbers.specs.Taken.{Taken}
-use Rattle.numbers.specs.Taken.{Cut, Bad}
+use Rattle.numbers.specs.Taken.{Taken, Cut, Bad}
 
 unfoldable pub number_of : Stored → ℕ
 number_of (Ok n) = 0

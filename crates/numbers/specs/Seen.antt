@@ -1,6 +1,5 @@
 -- A number that was taken, as straight code has it: its value and how many bytes it has, if there is one.
-use Rattle.std.specs.Prelude.{Ok, Err, Option, Some, None}
-use Rattle.std.specs.Prelude.{ℕ, cond, List, length, take, nat_lt, slice_index}
+use Rattle.std.specs.Prelude.{Ok, Err, Option, Some, None, ℕ, cond, List, length, take, nat_lt, slice_index}
 use Rattle.numbers.specs.declared.leb.Number.{Number}
 use Rattle.numbers.specs.Taken.{Taken}
 use Rattle.numbers.specs.Leb.{take_signed}

@@ -1,7 +1,6 @@
 -- Well-formed UTF-8, by table 3-7 of the Unicode Standard, a row for each line as printed.
 use Rattle.std.specs.Prelude.{ℕ, suc, Bool, true, false, cond, ◌&&◌, List, [], ◌∷◌, nat_le}
-use Rattle.numbers.specs.Spelling.{Spelling}
-use Rattle.numbers.specs.Spelling.{Right, Stops}
+use Rattle.numbers.specs.Spelling.{Spelling, Right, Stops}
 
 -- the bytes low..high
 pub record Range : Type 0 where

@@ -23,8 +23,7 @@ use Rattle.numbers.proofs.BytesLaws.{sets_append}
 use Rattle.numbers.proofs.SeenLaws.{index-small}
 use Rattle.fields.specs.declared.Field.{Field}
 use Rattle.fields.specs.declared.Field.TheVariants as field
-use Rattle.fields.specs.Leaf.{Leaf}
-use Rattle.fields.specs.Leaf.{Fine, Bad}
+use Rattle.fields.specs.Leaf.{Leaf, Fine, Bad}
 use Rattle.fields.specs.declared.Refusal.TheVariants.{Text}
 use Rattle.reading.specs.Fill.{value_in, size_in, fill_name, fill}
 use Rattle.fields.specs.Answers.{offset_of}
@@ -253,7 +252,7 @@ unfolding scan scan_name
 name_seen g bs t m e = go (take_unsigned bs) e
   where
     go : (x : Taken) → named bs x ≡ Fine t m → IsSome (seen x)
-    go (Ok taken2) e = refl
+    go (Ok got) e = refl
     go taken.Cut e = impossible cc
     go taken.Bad e = impossible cc
 
@@ -272,12 +271,12 @@ name_words g at bs t m e r d = go (take_unsigned bs) refl e d
     go : (x : Taken) → take_unsigned bs ≡ x → named bs x ≡ Fine t m → seen x ≡ Some r
         → (0 < r.took) × (r.took ≤ 5) × (r.value < 2 ^ 32) × (t ≡ r.took + r.value)
         × ((at + (0 + size_in x)) ∷ value_in x ∷ [] ≡ (at + r.took) ∷ r.value ∷ [])
-    go (Ok taken2) x e d =
-        let b = taken-inside u32 bs taken2.value taken2.took x in
-        let start : at + (0 + taken2.took) ≡ at + taken2.took = omega arith in
-        let same : taken2 ≡ r = cc in
+    go (Ok got) x e d =
+        let b = taken-inside u32 bs got.value got.took x in
+        let start : at + (0 + got.took) ≡ at + got.took = omega arith in
+        let same : got ≡ r = cc in
         subst (λ (y : Number). (0 < y.took) × (y.took ≤ 5) × (y.value < 2 ^ 32) × (t ≡ y.took + y.value)
-        × ((at + (0 + taken2.took)) ∷ taken2.value ∷ [] ≡ (at + y.took) ∷ y.value ∷ [])) same
-        (b.0, b.1, index-small bs taken2.value taken2.took x, fits taken2.value taken2.took (stop (take taken2.value (drop taken2.took bs))) (leb (taken2.took + taken2.value) (length bs)) (text (take taken2.value (drop taken2.took bs))) e, ap (λ j. j ∷ taken2.value ∷ []) start)
+        × ((at + (0 + got.took)) ∷ got.value ∷ [] ≡ (at + y.took) ∷ y.value ∷ [])) same
+        (b.0, b.1, index-small bs got.value got.took x, fits got.value got.took (stop (take got.value (drop got.took bs))) (leb (got.took + got.value) (length bs)) (text (take got.value (drop got.took bs))) e, ap (λ j. j ∷ got.value ∷ []) start)
     go taken.Cut x e d = impossible cc
     go taken.Bad x e d = impossible cc

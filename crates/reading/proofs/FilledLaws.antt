@@ -11,8 +11,7 @@ use lib.Seq.{drop-drop}
 use Rattle.numbers.specs.Leb.{take_signed}
 use Rattle.fields.specs.declared.Field.{Field}
 use Rattle.fields.specs.declared.Field.TheVariants as field
-use Rattle.fields.specs.Leaf.{Leaf}
-use Rattle.fields.specs.Leaf.{Fine}
+use Rattle.fields.specs.Leaf.{Leaf, Fine}
 use Rattle.reading.specs.Fill.{value_in, index, primitive, fill_value, fill_optional, fill_name, fill_slot, fill_slots, fill_extern, fill_reference, fill, fill_sort_index}
 use Rattle.fields.specs.Words.{wide}
 use Rattle.fields.specs.inside.Run.{along, makes, Under}

@@ -18,8 +18,7 @@ use Rattle.numbers.specs.Seen.{number, seen}
 use Rattle.numbers.specs.Text.{text}
 use Rattle.numbers.proofs.SeenLaws.{seen-some, seen_none}
 use Rattle.fields.specs.declared.Field.TheVariants as field
-use Rattle.fields.specs.Leaf.{Leaf}
-use Rattle.fields.specs.Leaf.{Fine, Bad}
+use Rattle.fields.specs.Leaf.{Leaf, Fine, Bad}
 use Rattle.fields.specs.declared.Refusal.{Refusal}
 use Rattle.fields.specs.declared.Refusal.TheVariants.{Code, Newer}
 use Rattle.reading.specs.Fill.{primitive, fill_name, fill}
@@ -106,6 +105,6 @@ unfolding pair_of scan scan_name
 name_none bs e = go (take_unsigned bs) refl
   where
     go : (x : Taken) → take_unsigned bs ≡ x → None ≡ pair 1 field.Name bs
-    go (Ok taken2) x = absurd (seen_none (take_unsigned bs) (sym e) taken2.value taken2.took x)
+    go (Ok got) x = absurd (seen_none (take_unsigned bs) (sym e) got.value got.took x)
     go taken.Cut x = simp x
     go taken.Bad x = simp x

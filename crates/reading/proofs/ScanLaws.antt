@@ -18,8 +18,7 @@ use Rattle.fields.specs.declared.Field.{Field}
 use Rattle.fields.specs.declared.Field.TheVariants as field
 use Rattle.fields.specs.declared.Refusal.{Refusal}
 use Rattle.fields.specs.declared.Refusal.TheVariants.{Text}
-use Rattle.fields.specs.Leaf.{Leaf}
-use Rattle.fields.specs.Leaf.{Fine, Bad}
+use Rattle.fields.specs.Leaf.{Leaf, Fine, Bad}
 use Rattle.fields.specs.Answers.{offset_of}
 use Rattle.fields.specs.Words.{indexed, wide}
 use Rattle.reading.specs.inside.Stages.{Inside}
@@ -110,7 +109,7 @@ number-near : {end sign : ℕ} → Form end sign → (w : ℕ) (bs : List ℕ) �
 number-near {end} form w bs = go (take_in end bs) refl
   where
     go : (r : Taken) → take_in end bs ≡ r → Near (length bs) (Words w) (numbered bs r w)
-    go (Ok taken2) e = fine taken2.took w (taken-inside form bs taken2.value taken2.took e).2 refl
+    go (Ok got) e = fine got.took w (taken-inside form bs got.value got.took e).2 refl
     go taken.Cut e = cut_near bs
     go taken.Bad e = bad _ 0 (omega arith)
 
@@ -128,7 +127,7 @@ name-near bs = go (take_unsigned bs) refl
     fits n t h false e = cut_near bs
 
     go : (r : Taken) → take_unsigned bs ≡ r → Near (length bs) (Words 2) (named bs r)
-    go (Ok taken2) e = fits taken2.value taken2.took (taken-inside u32 bs taken2.value taken2.took e).2 (leb (taken2.took + taken2.value) (length bs)) refl
+    go (Ok got) e = fits got.value got.took (taken-inside u32 bs got.value got.took e).2 (leb (got.took + got.value) (length bs)) refl
     go taken.Cut e = cut_near bs
     go taken.Bad e = bad _ 0 (omega arith)
 
@@ -185,9 +184,9 @@ unfolding count_at
 count_near bs at h = go (take_unsigned (drop at bs)) refl
   where
     go : (r : Taken) → take_unsigned (drop at bs) ≡ r → Near (length bs) Any (counted (length bs) r at)
-    go (Ok taken2) e =
-        cond_near (eqb taken2.value 0) (bad _ at h)
-        (cond_near (ltb taken2.value 4) (fine (at + taken2.took) taken2.value (omega (arith, length-drop at bs, taken-inside u32 (drop at bs) taken2.value taken2.took e)) tt) (bad _ at h))
+    go (Ok got) e =
+        cond_near (eqb got.value 0) (bad _ at h)
+        (cond_near (ltb got.value 4) (fine (at + got.took) got.value (omega (arith, length-drop at bs, taken-inside u32 (drop at bs) got.value got.took e)) tt) (bad _ at h))
     go taken.Cut e = cut_near bs
     go taken.Bad e = bad _ at h
 

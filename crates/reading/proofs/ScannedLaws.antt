@@ -1,6 +1,5 @@
 -- Scanning in steps: where its walks stay, the count, the opening of a shape, and an item that passes no limit.
-use Rattle.std.specs.Prelude.{Option}
-use Rattle.std.specs.Prelude.{Err, Ok}
+use Rattle.std.specs.Prelude.{Option, Err, Ok}
 use Prim.Native.Nat.{ℕ, ◌+◌, ◌*◌, ◌^◌, ◌≤◌}
 use native.Mathlib.Nat.{add-zero}
 use native.Mathlib.Omega.{arith}
@@ -17,8 +16,7 @@ use Rattle.numbers.proofs.LebLaws.{taken-inside}
 use Rattle.fields.specs.declared.Field.{Field}
 use Rattle.fields.specs.declared.Refusal.{Refusal}
 use Rattle.fields.specs.declared.Refusal.TheVariants.{Cut, Number}
-use Rattle.fields.specs.Leaf.{Leaf}
-use Rattle.fields.specs.Leaf.{Fine, Bad}
+use Rattle.fields.specs.Leaf.{Leaf, Fine, Bad}
 use Rattle.fields.specs.declared.Shape.{Shape}
 use Rattle.reading.specs.Fill.{index, fill}
 use Rattle.fields.specs.Words.{wide}

@@ -18,8 +18,7 @@ use Rattle.numbers.specs.Text.{text}
 use Rattle.numbers.proofs.LebLaws.{taken-inside}
 use Rattle.fields.specs.declared.Field.{Field}
 use Rattle.fields.specs.declared.Field.TheVariants as field
-use Rattle.fields.specs.Leaf.{Leaf}
-use Rattle.fields.specs.Leaf.{Fine, Bad}
+use Rattle.fields.specs.Leaf.{Leaf, Fine, Bad}
 use Rattle.fields.specs.declared.Refusal.{Refusal}
 use Rattle.fields.specs.Words.{word, indexed, wide}
 use Rattle.reading.specs.Fill.{value_in, size_in, index, fill_name, fill}
@@ -148,7 +147,7 @@ number-some : {end sign : ℕ} → Form end sign → (w : ℕ) (bs : List ℕ) �
 number-some {end} form w bs = go (take_in end bs) refl
   where
     go : (r : Taken) → take_in end bs ≡ r → Nonempty (numbered bs r w)
-    go (Ok taken2) e = fine taken2.took w (taken-inside form bs taken2.value taken2.took e).0
+    go (Ok got) e = fine got.took w (taken-inside form bs got.value got.took e).0
     go taken.Cut e = bad _ _
     go taken.Bad e = bad _ _
 
@@ -161,9 +160,9 @@ unfolding scan_name
 name-some bs = go (take_unsigned bs) refl
   where
     go : (r : Taken) → take_unsigned bs ≡ r → Nonempty (named bs r)
-    go (Ok taken2) e =
-        let h : 0 < taken2.took = (taken-inside u32 bs taken2.value taken2.took e).0 in
-        cond-some (leb (taken2.took + taken2.value) (length bs)) (cond-some (text (take taken2.value (drop taken2.took bs))) (fine (taken2.took + taken2.value) 2 (omega arith)) (bad _ _)) (bad _ _)
+    go (Ok got) e =
+        let h : 0 < got.took = (taken-inside u32 bs got.value got.took e).0 in
+        cond-some (leb (got.took + got.value) (length bs)) (cond-some (text (take got.value (drop got.took bs))) (fine (got.took + got.value) 2 (omega arith)) (bad _ _)) (bad _ _)
     go taken.Cut e = bad _ _
     go taken.Bad e = bad _ _
 
@@ -217,7 +216,7 @@ unfolding count_at
 count_some bs at h = go (take_unsigned (drop at bs))
   where
     go : (r : Taken) → Nonempty (counted (length bs) r at)
-    go (Ok taken2) = cond-some (eqb taken2.value 0) (bad _ _) (cond-some (ltb taken2.value 4) (fine (at + taken2.took) taken2.value (omega arith)) (bad _ _))
+    go (Ok got) = cond-some (eqb got.value 0) (bad _ _) (cond-some (ltb got.value 4) (fine (at + got.took) got.value (omega arith)) (bad _ _))
     go taken.Cut = bad _ _
     go taken.Bad = bad _ _
 
@@ -375,7 +374,7 @@ index-one g bs = go (take_unsigned bs)
     valued r = value_in r ∷ []
 
     go : (r : Taken) → seen r ≡ one_of (numbered bs r 1) (valued r)
-    go (Ok taken2) = refl
+    go (Ok got) = refl
     go taken.Cut = refl
     go taken.Bad = refl
 

@@ -1,8 +1,5 @@
 -- An item that is read: it has a shape, whose words fit, and few words.
-use Rattle.std.specs.Prelude.{None}
-use Rattle.std.specs.Prelude.{Some}
-use Rattle.std.specs.Prelude.{Option}
-use Rattle.std.specs.Prelude.{Err, Ok}
+use Rattle.std.specs.Prelude.{None, Some, Option, Err, Ok}
 use Prim.Native.Nat.{ℕ, ◌^◌, ◌≤◌}
 use native.Mathlib.Omega.{arith}
 use mathlib.Core.Path.{◌≡◌, refl, sym, ap, ◌∙◌}
@@ -12,12 +9,10 @@ use borrow.Author.Tests.{ltb-false, leb-true}
 use lib.Dec.{eqb, ltb, leb}
 use lib.ListN.{length}
 use lib.Seq.{sets}
-use Rattle.fields.specs.Leaf.{Leaf}
-use Rattle.fields.specs.Leaf.{Fine}
+use Rattle.fields.specs.Leaf.{Leaf, Fine}
 use Rattle.fields.specs.declared.Refusal.{Refusal}
 use Rattle.fields.specs.declared.Refusal.TheVariants as refusal
-use Rattle.fields.specs.Read.{Read}
-use Rattle.fields.specs.Read.{Item, Refused}
+use Rattle.fields.specs.Read.{Read, Item, Refused}
 use Rattle.fields.specs.declared.Shape.{Shape}
 use Rattle.fields.specs.Answers.{left_row}
 use Rattle.reading.specs.Read.{scanned, filled, roomed, read_found, read_item}

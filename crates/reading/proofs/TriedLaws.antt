@@ -1,8 +1,5 @@
 -- From what a straight reader leaves to what a reading call answers, and shapes by their fields: from the stages of a shape in `fields`.
-use Rattle.std.specs.Prelude.{None}
-use Rattle.std.specs.Prelude.{Some}
-use Rattle.std.specs.Prelude.{Option}
-use Rattle.std.specs.Prelude.{Err, Ok}
+use Rattle.std.specs.Prelude.{None, Some, Option, Err, Ok}
 use Prim.Native.Nat.{ℕ, ◌+◌, ◌≤◌, ◌<◌, ◌^◌}
 use native.Mathlib.Omega.{arith}
 use native.Mathlib.Nat.{add-zero}
@@ -18,8 +15,7 @@ use Rattle.numbers.specs.Taken as taken
 use Rattle.numbers.specs.Leb.{take_unsigned}
 use Rattle.fields.specs.declared.Field.{Field}
 use Rattle.fields.specs.declared.Field.TheVariants as field
-use Rattle.fields.specs.Leaf.{Leaf}
-use Rattle.fields.specs.Leaf.{Fine, Bad}
+use Rattle.fields.specs.Leaf.{Leaf, Fine, Bad}
 use Rattle.fields.specs.Read as read
 use Rattle.fields.specs.declared.Refusal.{Refusal}
 use Rattle.fields.specs.declared.Refusal.TheVariants as refusal
@@ -351,7 +347,7 @@ module _ (lead g : ℕ) (s : Shape) (input : List ℕ) (at made : ℕ) where
   counted_none h = go (take_unsigned (drop at input)) refl
     where
       go : (x : Taken) → take_unsigned (drop at input) ≡ x → (w : Refusal) × (j : ℕ) × (counted_scan lead g s input at made ≡ Bad w j)
-      go (Ok taken2) e = absurd (h taken2.value taken2.took e)
+      go (Ok got) e = absurd (h got.value got.took e)
       go taken.Cut e = (refusal.Cut, at + length (drop at input), rw e)
       go taken.Bad e = (refusal.Number, at + 0, rw e)
 

@@ -19,8 +19,7 @@ use Rattle.numbers.proofs.LebLaws.{taken-inside}
 use Rattle.numbers.proofs.SeenLaws.{seen-taken, seen_none, take-low, take_past}
 use Rattle.numbers.proofs.OutcomeLaws.{value-same}
 use Rattle.fields.specs.declared.Field.TheVariants as field
-use Rattle.fields.specs.Leaf.{Leaf}
-use Rattle.fields.specs.Leaf.{Fine, Bad}
+use Rattle.fields.specs.Leaf.{Leaf, Fine, Bad}
 use Rattle.fields.specs.declared.Refusal.{Refusal}
 use Rattle.fields.specs.declared.Refusal.TheVariants.{Cut, Code, Newer}
 use Rattle.fields.specs.Words.{word}
@@ -97,7 +96,7 @@ value_middle g bs h k l = simp (lt-leb _ _ h, le-ltb (byte bs 0) 0x40 k, lt-ltb 
 -- a byte that another follows, where no number is taken
 value_none : (bs : List ℕ) (t : Taken) → ((n k : ℕ) → t ≡ taken.Value n k → ⊥) → (ws : List ℕ) → None ≡ pair_of (numbered bs t 2) ws
 unfolding pair_of
-value_none bs (Ok taken2) none ws = absurd (none taken2.value taken2.took refl)
+value_none bs (Ok got) none ws = absurd (none got.value got.took refl)
 value_none bs taken.Cut none ws = refl
 value_none bs taken.Bad none ws = refl
 
@@ -147,7 +146,7 @@ number-few : (bs : List ℕ) → Few (numbered bs (take_signed bs) 2)
 number-few bs = go (take_signed bs) refl
   where
     go : (t : Taken) → take_signed bs ≡ t → Few (numbered bs t 2)
-    go (Ok taken2) e = let k = taken-inside s33 bs taken2.value taken2.took e in fine taken2.took 2 k.0 k.1
+    go (Ok got) e = let k = taken-inside s33 bs got.value got.took e in fine got.took 2 k.0 k.1
     go taken.Cut e = bad _ _
     go taken.Bad e = bad _ _
 

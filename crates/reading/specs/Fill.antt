@@ -1,6 +1,5 @@
 -- The words of a field whose bytes were scanned; a name's start is a place of the input, at which the bytes stand.
-use Rattle.std.specs.Prelude.{Err, Ok}
-use Rattle.std.specs.Prelude.{ℕ, ◌+◌, ◌-◌, cond, List, [], ◌∷◌, ◌++◌, eqb, ltb, drop}
+use Rattle.std.specs.Prelude.{Err, Ok, ℕ, ◌+◌, ◌-◌, cond, List, [], ◌∷◌, ◌++◌, eqb, ltb, drop}
 use Rattle.numbers.specs.Taken.{Taken}
 use Rattle.numbers.specs.Taken as taken
 use Rattle.numbers.specs.Leb.{take_unsigned, take_signed}
@@ -12,12 +11,12 @@ use Rattle.reading.specs.Scan.{byte, head_scan, first_scan, second_scan}
 
 -- the number and the bytes of what was taken
 abbrev pub value_in : Taken → ℕ
-value_in (Ok taken2) = taken2.value
+value_in (Ok got) = got.value
 value_in taken.Cut = 0
 value_in taken.Bad = 0
 
 abbrev pub size_in : Taken → ℕ
-size_in (Ok taken2) = taken2.took
+size_in (Ok got) = got.took
 size_in taken.Cut = 0
 size_in taken.Bad = 0
 

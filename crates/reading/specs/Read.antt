@@ -1,15 +1,9 @@
 -- Reading an item: what is answered, and what the row then holds.
-use Rattle.std.specs.Prelude.{None}
-use Rattle.std.specs.Prelude.{Some}
-use Rattle.std.specs.Prelude.{Option}
-use Rattle.std.specs.Prelude.{Err, Ok}
-use Rattle.std.specs.Prelude.{ℕ, cond, List, ◌∷◌, eqb, ltb, leb, length}
+use Rattle.std.specs.Prelude.{None, Some, Option, Err, Ok, ℕ, cond, List, ◌∷◌, eqb, ltb, leb, length}
 use Rattle.std.proofs.lemmas.List.Edits.{sets}
 use Rattle.fields.specs.declared.Refusal.TheVariants as refusal
-use Rattle.fields.specs.Leaf.{Leaf}
-use Rattle.fields.specs.Leaf.{Bad}
-use Rattle.fields.specs.Read.{Read}
-use Rattle.fields.specs.Read.{Item, Refused}
+use Rattle.fields.specs.Leaf.{Leaf, Bad}
+use Rattle.fields.specs.Read.{Read, Item, Refused}
 use Rattle.fields.specs.declared.Shape.{Shape}
 use Rattle.reading.specs.Fill.{fill}
 use Rattle.reading.specs.Scan.{scan}

@@ -1,7 +1,6 @@
 -- What a reader of grade g says of a field at the front of its input: the bytes it takes and the words it makes, or the leftmost
 -- fault. `lead` is the grade of a fixed byte.
-use Rattle.std.specs.Prelude.{Err, Ok}
-use Rattle.std.specs.Prelude.{ℕ, ◌+◌, ◌-◌, cond, List, eqb, ltb, leb, length, get_or, take, drop}
+use Rattle.std.specs.Prelude.{Err, Ok, ℕ, ◌+◌, ◌-◌, cond, List, eqb, ltb, leb, length, get_or, take, drop}
 use Rattle.numbers.specs.Taken.{Taken}
 use Rattle.numbers.specs.Taken as taken
 use Rattle.numbers.specs.Leb.{take_unsigned, take_signed}
@@ -9,8 +8,7 @@ use Rattle.numbers.specs.Text.{text, stop}
 use Rattle.fields.specs.declared.Field.{Field}
 use Rattle.fields.specs.declared.Field.TheVariants as field
 use Rattle.fields.specs.declared.Refusal.TheVariants.{Text, Cut, Code, Number, Newer}
-use Rattle.fields.specs.Leaf.{Leaf}
-use Rattle.fields.specs.Leaf.{Fine, Bad}
+use Rattle.fields.specs.Leaf.{Leaf, Fine, Bad}
 use Rattle.fields.specs.Answers.{offset_of}
 use Rattle.fields.specs.Grades.{grade_of}
 use Rattle.fields.specs.declared.Site.TheVariants.{TypeLead, NameLead, CanonOption}
@@ -40,7 +38,7 @@ past k (Err fault) = Bad fault.why (k + fault.value)
 
 -- a number at the front, which makes m words
 abbrev pub numbered : List ℕ → Taken → ℕ → Leaf
-numbered bs (Ok taken2) m = Fine taken2.took m
+numbered bs (Ok got) m = Fine got.took m
 numbered bs taken.Cut m = cut bs
 numbered bs taken.Bad m = Bad Number 0
 
@@ -49,7 +47,7 @@ scan_index m bs = numbered bs (take_unsigned bs) m
 
 -- a name: its length, and its bytes, which are text
 abbrev pub named : List ℕ → Taken → Leaf
-named bs (Ok taken2) = cond (leb (taken2.took + taken2.value) (length bs)) (cond (text (take taken2.value (drop taken2.took bs))) (Fine (taken2.took + taken2.value) 2) (Bad (Text (offset_of (stop (take taken2.value (drop taken2.took bs))))) taken2.took)) (cut bs)
+named bs (Ok got) = cond (leb (got.took + got.value) (length bs)) (cond (text (take got.value (drop got.took bs))) (Fine (got.took + got.value) 2) (Bad (Text (offset_of (stop (take got.value (drop got.took bs))))) got.took)) (cut bs)
 named bs taken.Cut = cut bs
 named bs taken.Bad = Bad Number 0
 
@@ -105,7 +103,7 @@ string_at bs at due = onward (past at (scan_name (drop at bs))) (λ next m. Fine
 
 -- the option count: 1, 2 or 3
 abbrev pub counted : ℕ → Taken → ℕ → Leaf
-counted len (Ok taken2) at = cond (eqb taken2.value 0) (Bad Code at) (cond (ltb taken2.value 4) (Fine (at + taken2.took) taken2.value) (Bad Code at))
+counted len (Ok got) at = cond (eqb got.value 0) (Bad Code at) (cond (ltb got.value 4) (Fine (at + got.took) got.value) (Bad Code at))
 counted len taken.Cut at = Bad Cut len
 counted len taken.Bad at = Bad Number at
 

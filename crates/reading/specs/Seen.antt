@@ -1,6 +1,5 @@
 -- What a step of straight reading says of a field: how many bytes it takes and its words, if it is right.
-use Rattle.std.specs.Prelude.{Err, Ok, Option, Some, None}
-use Rattle.std.specs.Prelude.{ℕ, Bool, false, cond, List, ltb, leb, length}
+use Rattle.std.specs.Prelude.{Err, Ok, Option, Some, None, ℕ, Bool, false, cond, List, ltb, leb, length}
 use Rattle.numbers.specs.declared.leb.Number.{Number}
 use Rattle.numbers.specs.Seen.{number}
 use Rattle.fields.specs.declared.Field.{Field}

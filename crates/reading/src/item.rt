@@ -186,18 +186,13 @@ pub fn item_refusal(found: Option<Shape>, lead: u32, grade: u32, input: &[u8]) -
         });
     }
     match found {
-        Some(s) => match scan_shape(s, lead, grade, input) {
-            Ok(
-                Span {
-                    took: _,
-                    made: words,
-                },
-            ) => Err(Fault {
+        Some(s) => {
+            let whole = scan_shape(s, lead, grade, input)?;
+            Err(Fault {
                 why: Refusal::Room,
-                value: words,
-            }),
-            Err(fault) => Err(fault),
-        },
+                value: whole.made,
+            })
+        }
         None => Err(Fault {
             why: Refusal::Code,
             value: 0,

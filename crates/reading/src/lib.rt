@@ -83,7 +83,7 @@ pub fn value(grade: u32, bs: &[u8]) -> Option<Pair>
     })
 }
 
-// The same behind a byte.
+// What stands behind a byte, with that byte.
 fn behind(v: Pair) -> Pair
     requires { v.took ≤ 8 }
     ensures { result ≡ behind_one v }

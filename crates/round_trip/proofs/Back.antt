@@ -7,11 +7,9 @@ use mathlib.Core.List.{List, [], ◌++◌, append_assoc, append-nil}
 use lib.ListN.{length, drop, length-append}
 use lib.Seq.{drop_at, drop-drop}
 use Rattle.fields.specs.declared.Field.{Field}
-use Rattle.fields.specs.Flaw.{Flaw}
-use Rattle.fields.specs.Flaw.{Right}
+use Rattle.fields.specs.Flaw.{Flaw, Right}
 use Rattle.fields.specs.declared.Refusal.TheVariants.{Newer}
-use Rattle.fields.specs.Leaf.{Leaf}
-use Rattle.fields.specs.Leaf.{Fine, Bad}
+use Rattle.fields.specs.Leaf.{Leaf, Fine, Bad}
 use Rattle.fields.specs.Words.{Words, wide}
 use Rattle.writing.specs.Binary.{bytes}
 use Rattle.reading.specs.Fill.{fill}

@@ -19,8 +19,7 @@ use Rattle.numbers.proofs.LebLaws.{taken_back, take-one}
 use Rattle.fields.specs.declared.Field.TheVariants as field
 use Rattle.fields.specs.Flaw.{Right, Wrong}
 use Rattle.fields.specs.declared.Refusal.TheVariants.{Tag, Newer}
-use Rattle.fields.specs.Leaf.{Leaf}
-use Rattle.fields.specs.Leaf.{Fine, Bad}
+use Rattle.fields.specs.Leaf.{Leaf, Fine, Bad}
 use Rattle.fields.specs.Words.{word, Words, chars, wide}
 use Rattle.writing.specs.Binary.{name, flag, slot_at, slots_at, slots, externname, bytes}
 use Rattle.reading.specs.Fill.{size_in, value_in, fill_name, fill_slot, fill_slots, fill_extern, fill}

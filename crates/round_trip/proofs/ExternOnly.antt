@@ -22,8 +22,7 @@ use Rattle.fields.specs.declared.Field.TheVariants as field
 use Rattle.fields.specs.Flaw.{Right}
 use Rattle.fields.specs.declared.Refusal.TheVariants.{Text, Code}
 use Rattle.fields.specs.Answers.{offset_of}
-use Rattle.fields.specs.Leaf.{Leaf}
-use Rattle.fields.specs.Leaf.{Fine, Bad}
+use Rattle.fields.specs.Leaf.{Leaf, Fine, Bad}
 use Rattle.fields.proofs.OutcomeLaws.{fine-same}
 use Rattle.fields.specs.Words.{word, Words, chars, wide}
 use Rattle.writing.specs.Binary.{name, flag, slot_at, slots_at, slots, externname, bytes}
@@ -117,21 +116,21 @@ unfolding scan_name
 name_found l t m f e = go (take_unsigned l) refl e
   where
     go : (r : Taken) → take_unsigned l ≡ r → scans.named l r ≡ Fine t m → NameFound l t m
-    go (Ok taken2) q e = test (stop (take taken2.value (drop taken2.took l))) (leb (taken2.took + taken2.value) (length l)) (text (take taken2.value (drop taken2.took l))) refl refl e
+    go (Ok got) q e = test (stop (take got.value (drop got.took l))) (leb (got.took + got.value) (length l)) (text (take got.value (drop got.took l))) refl refl e
       where
-        test : (byte : ℕ) (a b : Bool) → leb (taken2.took + taken2.value) (length l) ≡ a → text (take taken2.value (drop taken2.took l)) ≡ b
-            → cond a (cond b (Fine (taken2.took + taken2.value) 2) (Bad (Text (offset_of byte)) taken2.took)) (cut l) ≡ Fine t m → NameFound l t m
+        test : (byte : ℕ) (a b : Bool) → leb (got.took + got.value) (length l) ≡ a → text (take got.value (drop got.took l)) ≡ b
+            → cond a (cond b (Fine (got.took + got.value) 2) (Bad (Text (offset_of byte)) got.took)) (cut l) ≡ Fine t m → NameFound l t m
         test byte true true ha hb e =
-            let et : taken2.took + taken2.value ≡ t = (fine-same e).0 in
-            let i = taken-inside u32 l taken2.value taken2.took q in
-            let j : taken2.took + taken2.value ≤ length l = leb-true _ _ ha in
+            let et : got.took + got.value ≡ t = (fine-same e).0 in
+            let i = taken-inside u32 l got.value got.took q in
+            let j : got.took + got.value ≤ length l = leb-true _ _ ha in
             record {
-              size = taken2.value;
-              number = taken2.took;
+              size = got.value;
+              number = got.took;
               found = q;
-              small = taken-small 128 l taken2.value taken2.took q;
+              small = taken-small 128 l got.value got.took q;
               some = i.0;
-              again = padded-number u32 l taken2.value taken2.took f q;
+              again = padded-number u32 l got.value got.took f q;
               whole = sym et;
               inside = omega arith;
               says = hb;
@@ -326,24 +325,24 @@ module _ (e : ℕ) (input xs : List ℕ) (b : ℕ) (inp : drop b input ≡ xs) (
       l = drop at xs
 
       go : (r : Taken) → take_unsigned l ≡ r → counted (length xs) r at ≡ Fine h n → Counted at h n
-      go (Ok taken2) q s = test (eqb taken2.value 0) (ltb taken2.value 4) refl refl s
+      go (Ok got) q s = test (eqb got.value 0) (ltb got.value 4) refl refl s
         where
-          test : (x y : Bool) → eqb taken2.value 0 ≡ x → ltb taken2.value 4 ≡ y → cond x (Bad Code at) (cond y (Fine (at + taken2.took) taken2.value) (Bad Code at)) ≡ Fine h n → Counted at h n
+          test : (x y : Bool) → eqb got.value 0 ≡ x → ltb got.value 4 ≡ y → cond x (Bad Code at) (cond y (Fine (at + got.took) got.value) (Bad Code at)) ≡ Fine h n → Counted at h n
           test true y hx hy s = impossible cc
           test false true hx hy s =
-              let ec : taken2.value ≡ n = (fine-same s).1 in
-              let eh : at + taken2.took ≡ h = (fine-same s).0 in
-              let four = ltb-true taken2.value 4 hy in
-              let i = taken-inside u32 l taken2.value taken2.took q in
-              let size : taken2.took ≡ h - at = omega arith in
-              let nz = eqb-false taken2.value 0 hx in
+              let ec : got.value ≡ n = (fine-same s).1 in
+              let eh : at + got.took ≡ h = (fine-same s).0 in
+              let four = ltb-true got.value 4 hy in
+              let i = taken-inside u32 l got.value got.took q in
+              let size : got.took ≡ h - at = omega arith in
+              let nz = eqb-false got.value 0 hx in
               record {
                 some = λ z. nz (ec ∙ z);
                 before = omega arith;
                 inside = omega (arith, length-drop at xs, i);
                 again =
-                    padded_by (ap (λ (c : ℕ). c ∷ []) (sym ec) ∙ sym (one_byte 128 taken2.value (omega arith)))
-                    (padded-number u32 l taken2.value taken2.took (bytes-behind xs at fx) q) (ap (λ n. take n l) size);
+                    padded_by (ap (λ (c : ℕ). c ∷ []) (sym ec) ∙ sym (one_byte 128 got.value (omega arith)))
+                    (padded-number u32 l got.value got.took (bytes-behind xs at fx) q) (ap (λ n. take n l) size);
               }
           test false false hx hy s = impossible cc
       go taken.Cut q s = impossible cc

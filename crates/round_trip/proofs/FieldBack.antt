@@ -15,8 +15,7 @@ use Rattle.fields.specs.declared.Field.{Field}
 use Rattle.fields.specs.declared.Field.TheVariants as field
 use Rattle.fields.specs.Flaw.{Right, Wrong}
 use Rattle.fields.specs.declared.Refusal.TheVariants.{Tag, Newer}
-use Rattle.fields.specs.Leaf.{Leaf}
-use Rattle.fields.specs.Leaf.{Fine, Bad}
+use Rattle.fields.specs.Leaf.{Leaf, Fine, Bad}
 use Rattle.fields.specs.Words.{word, Words, indexed, wide}
 use Rattle.writing.specs.Binary.{name, primvaltype, valtype, optional, resultlist, functype, flag, representation, destructor, canonopt, typebound, externdesc, bytes, argument, coresortidx, sortidx}
 use Rattle.reading.specs.Fill.{index, primitive, fill_value, fill_optional, fill_reference, fill, fill_sort_index}

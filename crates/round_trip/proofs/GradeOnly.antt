@@ -10,8 +10,7 @@ use lib.Dec.{eqb, ltb}
 use lib.ListN.{length, drop}
 use Rattle.numbers.specs.Leb.{take_unsigned, take_signed}
 use Rattle.fields.specs.declared.Refusal.TheVariants.{Code, Newer}
-use Rattle.fields.specs.Leaf.{Leaf}
-use Rattle.fields.specs.Leaf.{Fine, Bad}
+use Rattle.fields.specs.Leaf.{Leaf, Fine, Bad}
 use Rattle.fields.proofs.OutcomeLaws.{fine-same}
 use Rattle.fields.specs.Words.{word, Words}
 use Rattle.reading.specs.Fill.{value_in, primitive, fill_value, fill_optional, fill_reference}

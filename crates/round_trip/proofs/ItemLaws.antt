@@ -1,9 +1,6 @@
 -- Reading a whole item: what its section takes is read back, or refused at the first byte above the grade; and what is accepted is
 -- written again beside its own bytes, with each number in its shortest form, and has no byte above the grade.
-use Rattle.std.specs.Prelude.{None}
-use Rattle.std.specs.Prelude.{Some}
-use Rattle.std.specs.Prelude.{Option}
-use Rattle.std.specs.Prelude.{Err, Ok}
+use Rattle.std.specs.Prelude.{None, Some, Option, Err, Ok}
 use Prim.Native.Nat.{ℕ, ◌+◌, ◌^◌, ◌≤◌, ◌<◌}
 use native.Mathlib.Omega.{arith}
 use mathlib.Core.Path.{◌≡◌, refl, sym, ap, ◌∙◌, subst}
@@ -12,10 +9,8 @@ use borrow.Author.Tests.{le-ltb, le-leb, lt-leb, ne_eqb}
 use lib.ListN.{length, take, drop, length-take}
 use Rattle.numbers.specs.Bytes.{Bytes}
 use Rattle.numbers.proofs.BytesLaws.{sets_back}
-use Rattle.fields.specs.Flaw.{Flaw}
-use Rattle.fields.specs.Flaw.{Right}
-use Rattle.fields.specs.Leaf.{Leaf}
-use Rattle.fields.specs.Leaf.{Fine}
+use Rattle.fields.specs.Flaw.{Flaw, Right}
+use Rattle.fields.specs.Leaf.{Leaf, Fine}
 use Rattle.fields.specs.declared.Refusal.TheVariants as refusal
 use Rattle.fields.specs.Read.{Item, Refused}
 use Rattle.fields.specs.declared.Shape.{Shape}

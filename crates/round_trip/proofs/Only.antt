@@ -9,8 +9,7 @@ use lib.ListN.{length, take, drop, length-append}
 use lib.Seq.{drop_at, drop-drop, take-add}
 use Rattle.fields.specs.declared.Field.{Field}
 use Rattle.fields.specs.Flaw.{Right}
-use Rattle.fields.specs.Leaf.{Leaf}
-use Rattle.fields.specs.Leaf.{Fine}
+use Rattle.fields.specs.Leaf.{Leaf, Fine}
 use Rattle.fields.proofs.OutcomeLaws.{fine-same}
 use Rattle.writing.specs.Binary.{bytes}
 use Rattle.reading.specs.Fill.{fill}

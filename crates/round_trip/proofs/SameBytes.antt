@@ -9,8 +9,7 @@ use lib.ListN.{length, drop}
 use Rattle.numbers.specs.Leb.{unsigned}
 use Rattle.fields.specs.declared.Field.{Field}
 use Rattle.fields.specs.declared.Field.TheVariants as field
-use Rattle.fields.specs.Flaw.{Flaw}
-use Rattle.fields.specs.Flaw.{Right}
+use Rattle.fields.specs.Flaw.{Flaw, Right}
 use Rattle.fields.specs.Leaf.{Fine}
 use Rattle.fields.specs.Words.{word, chars, wide}
 use Rattle.fields.specs.View.{view, said}

@@ -19,8 +19,7 @@ use Rattle.numbers.proofs.ExactLaws.{taken-small}
 use Rattle.numbers.proofs.LebLaws.{taken-inside, one_byte}
 use Rattle.fields.specs.Flaw.{Right}
 use Rattle.fields.specs.declared.Refusal.TheVariants.{Code, Newer}
-use Rattle.fields.specs.Leaf.{Leaf}
-use Rattle.fields.specs.Leaf.{Fine, Bad}
+use Rattle.fields.specs.Leaf.{Leaf, Fine, Bad}
 use Rattle.fields.proofs.OutcomeLaws.{fine-same}
 use Rattle.writing.specs.Binary.{primvaltype, valtype, optional, resultlist, destructor, canonopt, typebound, externdesc, argument, coresortidx, sortidx}
 use Rattle.fields.specs.Words.{indexed}
@@ -112,10 +111,10 @@ unfolding scan_index
 index_seen xs n t m f e = go (take_unsigned xs) refl e
   where
     go : (r : Taken) → take_unsigned xs ≡ r → numbered xs r n ≡ Fine t m → IndexSeen xs n t m
-    go (Ok taken2) q e =
-        let et : taken2.took ≡ t = (fine-same e).0 in
-        let q' : take_unsigned xs ≡ taken.Value taken2.value t = q ∙ ap (λ k. taken.Value taken2.value k) et in
-        record { x = taken2.value; small = taken-small 128 xs taken2.value t q'; reads = ap value_in q; again = padded-number u32 xs taken2.value t f q'; inside = (taken-inside u32 xs taken2.value t q').2; makes = sym (fine-same e).1 }
+    go (Ok got) q e =
+        let et : got.took ≡ t = (fine-same e).0 in
+        let q' : take_unsigned xs ≡ taken.Value got.value t = q ∙ ap (λ k. taken.Value got.value k) et in
+        record { x = got.value; small = taken-small 128 xs got.value t q'; reads = ap value_in q; again = padded-number u32 xs got.value t f q'; inside = (taken-inside u32 xs got.value t q').2; makes = sym (fine-same e).1 }
     go taken.Cut q e = impossible cc
     go taken.Bad q e = impossible cc
 
@@ -169,16 +168,16 @@ value-seen g xs t m f e =
     y = byte xs 0
 
     number : (r : Taken) → take_signed xs ≡ r → numbered xs r 2 ≡ Fine t m → PairSeen Valued valtype (1 ∷ value_in (take_signed xs) ∷ []) xs t m
-    number (Ok taken2) q e =
-        let et : taken2.took ≡ t = (fine-same e).0 in
-        let q' : take_signed xs ≡ taken.Value taken2.value t = q ∙ ap (λ k. taken.Value taken2.value k) et in
+    number (Ok got) q e =
+        let et : got.took ≡ t = (fine-same e).0 in
+        let q' : take_signed xs ≡ taken.Value got.value t = q ∙ ap (λ k. taken.Value got.value k) et in
         record {
           a = 1;
-          b = taken2.value;
-          right = typed (taken-small 64 xs taken2.value t q');
+          b = got.value;
+          right = typed (taken-small 64 xs got.value t q');
           fills = ap (λ r. 1 ∷ value_in r ∷ []) q;
-          again = padded-number s33 xs taken2.value t f q';
-          inside = (taken-inside s33 xs taken2.value t q').2;
+          again = padded-number s33 xs got.value t f q';
+          inside = (taken-inside s33 xs got.value t q').2;
           makes = sym (fine-same e).1;
         }
     number taken.Cut q e = impossible cc

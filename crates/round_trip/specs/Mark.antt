@@ -1,8 +1,5 @@
 -- Where a row's first byte above a grade stands, of the row alone.
-use Rattle.std.specs.Prelude.{None}
-use Rattle.std.specs.Prelude.{Some}
-use Rattle.std.specs.Prelude.{Option}
-use Rattle.std.specs.Prelude.{ℕ, ◌+◌, ◌≡◌, cond, List, eqb, ltb, length, drop}
+use Rattle.std.specs.Prelude.{None, Some, Option, ℕ, ◌+◌, ◌≡◌, cond, List, eqb, ltb, length, drop}
 use Rattle.fields.specs.declared.Field.{Field}
 use Rattle.fields.specs.declared.Field.TheVariants as field
 use Rattle.fields.specs.declared.Shape.{Shape}

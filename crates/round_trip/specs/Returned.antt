@@ -1,7 +1,5 @@
 -- What reading the bytes of a row leaves, by the first byte above the grade that the row has.
-use Rattle.std.specs.Prelude.{Some}
-use Rattle.std.specs.Prelude.{Option}
-use Rattle.std.specs.Prelude.{ℕ, ◌≤◌, ◌<◌, ◌≡◌, List, length}
+use Rattle.std.specs.Prelude.{Some, Option, ℕ, ◌≤◌, ◌<◌, ◌≡◌, List, length}
 use Rattle.std.proofs.lemmas.List.Edits.{sets}
 use Rattle.fields.specs.declared.Refusal.TheVariants as refusal
 use Rattle.fields.specs.Read.{Item, Refused}

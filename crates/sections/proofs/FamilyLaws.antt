@@ -1,8 +1,6 @@
 -- The bytes of a row by its family: the writer of a family stores them, and an accepted row's size is their length.
-use Rattle.std.specs.Prelude.{Ok}
-use Rattle.std.specs.Prelude.{Some}
+use Rattle.std.specs.Prelude.{Ok, Some, Option}
 use Rattle.fields.specs.declared.Shape.{Shape}
-use Rattle.std.specs.Prelude.{Option}
 use Prim.Native.Nat.{ℕ}
 use native.Mathlib.Omega.{arith}
 use mathlib.Core.Path.{◌≡◌, refl, ap, ◌∙◌}
@@ -10,8 +8,7 @@ use mathlib.Core.Bool.{Bool, true, false, cond}
 use mathlib.Core.List.{List, [], ◌∷◌}
 use lib.Dec.{eqb, ltb}
 use lib.ListN.{length, drop, length-append}
-use Rattle.fields.specs.Answer.{Answer}
-use Rattle.fields.specs.Answer.{Refused}
+use Rattle.fields.specs.Answer.{Answer, Refused}
 use Rattle.fields.specs.declared.Field.TheVariants as field
 use Rattle.fields.specs.declared.Refusal.TheVariants as refusal
 use Rattle.fields.specs.Words.{word, wide}

@@ -1,6 +1,5 @@
 -- The finished section: N:byte size:u32 cont, where cont is the count and the body (core 5.5.2).
-use Rattle.std.specs.Prelude.{Ok}
-use Rattle.std.specs.Prelude.{ℕ, ◌+◌, cond, List, ◌∷◌, ◌++◌, ltb, length, take}
+use Rattle.std.specs.Prelude.{Ok, ℕ, ◌+◌, cond, List, ◌∷◌, ◌++◌, ltb, length, take}
 use Rattle.numbers.specs.Leb.{unsigned}
 use Rattle.fields.specs.declared.Refusal.TheVariants as refusal
 use Rattle.fields.specs.Answers.{Left, refuse}

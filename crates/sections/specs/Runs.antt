@@ -1,7 +1,5 @@
 -- Steps one after the other from a section over its body on: what they come to, and whether each of them is accepted.
-use Rattle.std.specs.Prelude.{Ok}
-use Rattle.std.specs.Prelude.{Err}
-use Rattle.std.specs.Prelude.{ℕ, ◌+◌, ◌≤◌, ◌<◌, List, [], ◌∷◌, ◌++◌, ◌⊎◌, ◌≡◌, length, get_or, take}
+use Rattle.std.specs.Prelude.{Ok, Err, ℕ, ◌+◌, ◌≤◌, ◌<◌, List, [], ◌∷◌, ◌++◌, ◌⊎◌, ◌≡◌, length, get_or, take}
 use Rattle.fields.specs.Answer.{Answer}
 use Rattle.sections.specs.declared.Section.{Section}
 use Rattle.sections.specs.Steps.{Turn, rowing, opening, heading, resulting, abandoning}

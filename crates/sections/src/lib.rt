@@ -84,7 +84,7 @@ impl Section {
         ensures { result ≡ fresh family }
     {
         Section {
-            family: family,
+            family,
             used: 0,
             count: 0,
             phase: Phase::Closed,
@@ -145,10 +145,10 @@ impl Section {
                 let grown = used + n;
                 Turned {
                     section: Section {
-                        family: family,
+                        family,
                         used: grown,
-                        count: count,
-                        phase: phase,
+                        count,
+                        phase,
                     },
                     answer: Ok(n),
                 }
@@ -277,7 +277,7 @@ impl Section {
         let count = self.count;
         Turned {
             section: Section {
-                family: family,
+                family,
                 used: start,
                 count: count - 1,
                 phase: Phase::Closed,

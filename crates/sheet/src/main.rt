@@ -2,7 +2,7 @@
 // ` byte B` behind it for a name that is not UTF-8.
 #![tactic(auto)]
 
-use fields::{Answer, Fault, Refusal};
+use fields::{Fault, Refusal};
 use telling::{say, say_field};
 
 fn say_section(rt: &HostRuntime, section: &[u8]) {

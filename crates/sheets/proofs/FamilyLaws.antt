@@ -1,6 +1,5 @@
 -- A row that its family takes: its size is the length of its bytes, and at most 32772 bytes for each of its words; and it is written.
-use Rattle.std.specs.Prelude.{Ok}
-use Rattle.std.specs.Prelude.{Some}
+use Rattle.std.specs.Prelude.{Ok, Some}
 use Prim.Native.Nat.{ℕ, suc, ◌+◌, ◌*◌, ◌≤◌}
 use native.Mathlib.Nat.{mul-le-mul_left}
 use native.Mathlib.Omega.{arith}

@@ -15,12 +15,10 @@ use Rattle.numbers.specs.Leb.{unsigned}
 use Rattle.numbers.specs.Stored.{Stored}
 use Rattle.numbers.proofs.BytesLaws.{sets_back, store-fits}
 use Rattle.numbers.proofs.LebLaws.{size_bounds}
-use Rattle.fields.specs.Answer.{Answer}
-use Rattle.fields.specs.Answer.{Refused}
+use Rattle.fields.specs.Answer.{Answer, Refused}
 use Rattle.fields.specs.declared.Refusal.{Refusal}
 use Rattle.fields.specs.declared.Refusal.TheVariants as refusal
-use Rattle.fields.specs.Leaf.{Leaf}
-use Rattle.fields.specs.Leaf.{Fine, Bad}
+use Rattle.fields.specs.Leaf.{Leaf, Fine, Bad}
 use Rattle.fields.specs.Words.{word}
 use Rattle.fields.specs.Answers as leaves
 use Rattle.sections.specs.Section.{entries_of, known, known_family, sounds}

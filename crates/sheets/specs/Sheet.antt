@@ -1,14 +1,11 @@
 -- A sheet: its framing whole, then all rows tried in order with body and output room, and then the bytes.
-use Rattle.std.specs.Prelude.{Err, Ok}
-use Rattle.std.specs.Prelude.{ℕ, ◌+◌, cond, List, [], ◌∷◌, ◌++◌, eqb, ltb, leb, length}
+use Rattle.std.specs.Prelude.{Err, Ok, ℕ, ◌+◌, cond, List, [], ◌∷◌, ◌++◌, eqb, ltb, leb, length}
 use Rattle.std.proofs.lemmas.List.Edits.{sets}
 use Rattle.numbers.specs.Leb.{unsigned}
-use Rattle.fields.specs.Answer.{Answer}
-use Rattle.fields.specs.Answer.{Refused}
+use Rattle.fields.specs.Answer.{Answer, Refused}
 use Rattle.fields.specs.declared.Refusal.{Refusal}
 use Rattle.fields.specs.declared.Refusal.TheVariants as refusal
-use Rattle.fields.specs.Leaf.{Leaf}
-use Rattle.fields.specs.Leaf.{Fine, Bad}
+use Rattle.fields.specs.Leaf.{Leaf, Fine, Bad}
 use Rattle.fields.specs.Words.{word}
 use Rattle.sections.specs.Finish as finish
 use Rattle.sections.specs.Section.{measured_family, family_bytes}

@@ -30,10 +30,8 @@ fn fill_words(input: &[u8], at: usize, n: usize, row: &mut [u32])
     requires n_in_bounds_2 { n ≤ length row.old }
     ensures { row.new ≡ sets row.old 0 (words input.now at n) }
 {
-    let mut i: usize = 0;
-    while i < n {
+    for i in 0..n {
         row[i] = number_at(input, at + 4 * i);
-        i += 1;
     }
 }
 
@@ -244,9 +242,9 @@ fn close(family: u32, count: u32, used: usize, body: &[u8], out: &mut [u8]) -> A
     ensures { leaves.left result out.new ≡ finishing (closed family used count) body.now out.old }
 {
     let section = Section {
-        family: family,
-        used: used,
-        count: count,
+        family,
+        used,
+        count,
         phase: Phase::Closed,
     };
     section.finish(body, out)
@@ -257,24 +255,18 @@ fn sheet_general(words: &[u32], family: u32, pool: &[u8], body: &mut [u8], out: 
     requires { SheetWords family words.now }
     ensures { left result body.new out.new ≡ words_left family words.now pool.now body.old out.old }
 {
-    match try_rows(words, family, pool, body.len()) {
-        Ok(
-            Span {
-                took: rows,
-                made: used,
-            },
-        ) => {
-            if out.len() < section_size(rows as u32, used) {
-                return Err(Fault {
-                    why: Refusal::Room,
-                    value: rows,
-                });
-            }
-            write_rows(words, family, pool, body);
-            close(family, rows as u32, used, body, out)
-        }
-        Err(Fault { why, value: row }) => Err(Fault { why, value: row }),
+    let Span {
+        took: rows,
+        made: used,
+    } = try_rows(words, family, pool, body.len())?;
+    if out.len() < section_size(rows as u32, used) {
+        return Err(Fault {
+            why: Refusal::Room,
+            value: rows,
+        });
     }
+    write_rows(words, family, pool, body);
+    close(family, rows as u32, used, body, out)
 }
 
 // The rows of the words made once, in `made`, and copied to body when all is known: making a row measures it too. Where they do not

@@ -13,7 +13,6 @@ use Rattle.numbers.specs.Bytes.{store, part_of}
 use Rattle.numbers.specs.Leb.{unsigned}
 use Rattle.numbers.specs.Numbers.{value_of}
 use Rattle.numbers.specs.Stored.{Stored}
-use Rattle.fields.specs.declared.Field.{Field}
 use Rattle.fields.specs.declared.Field.TheVariants as field
 use Rattle.fields.specs.Words.{word, wide}
 use Rattle.writing.specs.Binary.{valtype, optional}
@@ -31,17 +30,6 @@ use Rattle.types.specs.inside.Optional.{OptionalKnown}
 use Rattle.types.specs.Table.{label, labelvaltype, case}
 use Rattle.types.proofs.SmallLaws.{value-few}
 
--- ---- loops over n elements, of which i are done: one more is done
-
-module _ {pool : List ℕ} {g : List Field} {element : List ℕ → List ℕ} {row : List ℕ} {from n base at : ℕ} (i : ℕ) where
-  seen_one : {most made : ℕ} → Going pool g element most row from n base (n - i - 1) at made
-      → Going pool g element most row from n base (n - (i + 1)) at made
-  seen_one {most} {made} k = subst (λ d. Going pool g element most row from n base d at made) (omega arith) k
-
-  pub put_one : {old new : List ℕ} {to : ℕ} → Putting pool g element row from n old base (n - i - 1) at to new
-      → Putting pool g element row from n old base (n - (i + 1)) at to new
-  put_one {old} {new} {to} k = subst (λ d. Putting pool g element row from n old base d at to new) (omega arith) k
-
 -- ---- an element that is seen
 
 module _ {pool row : List ℕ} {from n base i at made : ℕ} where
@@ -50,16 +38,16 @@ module _ {pool row : List ℕ} {from n base i at made : ℕ} where
       → Going pool (field.Name ∷ field.Nothing ∷ []) (label pool) 65541 row from n base (n - (i + 1)) (at + 2) (made + one)
   unfolding wide widths
   label_next k h small e =
-      seen_one i (known_next field.Name field.Nothing pool (name_element pool) k (omega arith) (name_at-known pool row at e) (nothing_at pool (drop (at + 2) row)) (omega arith)
-      (name_at-small pool row at small e) refl)
+      known_next field.Name field.Nothing pool (name_element pool) k (omega arith) (name_at-known pool row at e) (nothing_at pool (drop (at + 2) row)) (omega arith)
+      (name_at-small pool row at small e) refl
 
   pub value_next : Going pool (field.Value ∷ field.Nothing ∷ []) (λ ws. valtype (word ws 0) (word ws 1)) 5 row from n base (n - i) at made → i < n
       → {one : ℕ} → Some one ≡ right_size [] field.Value (word row at ∷ word row (at + 1) ∷ [])
       → Going pool (field.Value ∷ field.Nothing ∷ []) (λ ws. valtype (word ws 0) (word ws 1)) 5 row from n base (n - (i + 1)) (at + 2) (made + one)
   unfolding wide widths
   value_next k h e =
-      seen_one i (known_next field.Value field.Nothing pool (value_element pool) k (omega arith) (value_at_lem pool row at refl refl (value-known e pool))
-      (nothing_at pool (drop (at + 2) row)) (omega arith) (value-few (word row at) (word row (at + 1)) e) refl)
+      known_next field.Value field.Nothing pool (value_element pool) k (omega arith) (value_at_lem pool row at refl refl (value-known e pool))
+      (nothing_at pool (drop (at + 2) row)) (omega arith) (value-few (word row at) (word row (at + 1)) e) refl
 
   pub field_next : Going pool (field.Name ∷ field.Value ∷ []) (labelvaltype pool) 65546 row from n base (n - i) at made → i < n
       → length pool ≤ 65536 → {one two : ℕ} → Some one ≡ right_size pool field.Name (word row at ∷ word row (at + 1) ∷ [])
@@ -68,9 +56,9 @@ module _ {pool row : List ℕ} {from n base i at made : ℕ} where
   unfolding wide widths
   field_next k h small e d =
       let next : at + 3 ≡ at + 2 + 1 = omega arith in
-      seen_one i (known_next field.Name field.Value pool (labelled_element pool) k (omega arith) (name_at-known pool row at e)
+      known_next field.Name field.Value pool (labelled_element pool) k (omega arith) (name_at-known pool row at e)
       (value_at_lem pool row (at + 2) refl (ap (λ j. word row j) next) (value-known d pool)) refl
-      (omega (arith, name_at-small pool row at small e, value-few (word row (at + 2)) (word row (at + 3)) d)) refl)
+      (omega (arith, name_at-small pool row at small e, value-few (word row (at + 2)) (word row (at + 3)) d)) refl
 
   pub case_next : Going pool (field.Name ∷ field.OptionalThenZero ∷ []) (case pool) 65548 row from n base (n - i) at made → i < n
       → length pool ≤ 65536 → {one two : ℕ} → Some one ≡ right_size pool field.Name (word row at ∷ word row (at + 1) ∷ [])
@@ -81,9 +69,9 @@ module _ {pool row : List ℕ} {from n base i at made : ℕ} where
       let t = word row (at + 2) in
       let x = word row (at + 3) in
       let next : at + 3 ≡ at + 2 + 1 = omega arith in
-      seen_one i (known_next field.Name field.OptionalThenZero pool (case_element pool) k (omega arith) (name_at-known pool row at e)
+      known_next field.Name field.OptionalThenZero pool (case_element pool) k (omega arith) (name_at-known pool row at e)
       (case_at pool row (at + 2) refl (ap (λ j. word row j) next) (case_known t x pool s.right (ap (λ (m : ℕ). m + 1) (s.size ∙ go t x (eqb t 2)))))
-      (omega arith) (omega (arith, name_at-small pool row at small e)) refl)
+      (omega arith) (omega (arith, name_at-small pool row at small e)) refl
     where
       go : (t x : ℕ) (b : Bool) → cond b 1 (1 + length (valtype t x)) ≡ length (cond b (0x00 ∷ []) (0x01 ∷ valtype t x))
       go t x true = refl

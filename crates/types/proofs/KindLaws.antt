@@ -135,9 +135,6 @@ module _ {i j k : ℕ} {found : Option Shape} (e : shape_of k ≡ found) (f : i 
   pub as_kind : shape_of j ≡ found
   as_kind = kinds.as_kind table e f h
 
-  pub measured_as : (row pool : List ℕ) {r : ℕ} → measured_row found row pool ≡ Ok r → measured_row (shape_of j) row pool ≡ Ok r
-  measured_as = kinds.measured_as table e f h
-
   pub tried_as : {row pool old new : List ℕ} {at : ℕ} {r : Option ℕ} → Tried found row pool old at r new → Tried (shape_of j) row pool old at r new
   tried_as {row} {pool} {old} {new} {at} {r} t = subst (λ s. Tried s row pool old at r new) (sym as_kind) t
 

@@ -1,5 +1,5 @@
 -- What the straight code of an O and of the kinds without names and counts comes to: what was seen makes a size, and what was stored the bytes.
-use Rattle.std.specs.Prelude.{Option, Some, Ok, IfSome}
+use Rattle.std.specs.Prelude.{Some, Ok}
 use Prim.Native.Nat.{ℕ, ◌+◌, ◌≤◌, ◌<◌}
 use native.Mathlib.Omega.{arith}
 use mathlib.Core.Path.{◌≡◌, refl, sym, ◌∙◌, subst}
@@ -46,14 +46,9 @@ use Rattle.writing.proofs.GroupLaws.{byte-wrote, bytes-wrote, number_wrote}
 use Rattle.types.specs.inside.Optional.{OptionalKnown}
 use Rattle.types.specs.Table.{two}
 
--- ---- a size that is found
-
-pub found : (P : ℕ → Type 0) {o : Option ℕ} {r : ℕ} → o ≡ Some r → IfSome o P → P r
-found P e h = subst (λ x. IfSome x P) e h
-
 -- a V has few bytes
 pub value-few : (t x : ℕ) {r : ℕ} → Some r ≡ right_size [] field.Value (t ∷ x ∷ []) → r ≤ 5
-value-few t x e = found (λ n. n ≤ 5) (sym e) (value-small t x)
+value-few t x e = rw (sym e) at (value-small t x)
 
 -- ---- an O
 

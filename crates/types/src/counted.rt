@@ -1,10 +1,8 @@
-// Kinds with a count in straight code. Each has its own loop: of one loop over a closure, each closure needs clauses as long as the loop.
-// Their parts: how many bytes a row makes, if all of it is seen to be right, and its bytes.
-ghost use Rattle.std.specs.Prelude.{IfSome, ℕ, ◌<◌, ◌≤◌, ◌+◌, ◌*◌, ◌^◌, List, ◌∷◌, [], ◌++◌, ◌≡◌, length, drop};
+// Kinds with a count in straight code: how many bytes a row makes, if all of it is seen to be right, and its bytes. Each has loops of
+// its own: of one loop over a closure, each closure needs clauses as long as the loop.
+ghost use Rattle.std.specs.Prelude.{IfSome, ℕ, ◌<◌, ◌≤◌, ◌+◌, ◌*◌, ◌^◌, List, ◌∷◌, [], ◌++◌, ◌≡◌, length, drop, Ok, Some};
 ghost use Rattle.std.proofs.lemmas.List.Edits.{sets};
 ghost use Rattle.numbers.specs.Leb.{unsigned};
-ghost use Rattle.std.specs.Prelude.{Ok};
-ghost use Rattle.std.specs.Prelude.{Some};
 ghost use Rattle.fields.specs.Words.{word};
 ghost use Rattle.writing.specs.Binary.{valtype};
 ghost use Rattle.writing.specs.Row.{measured_row};

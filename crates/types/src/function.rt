@@ -1,8 +1,6 @@
 // Functions in straight code: how many bytes a row makes, if all of it is seen to be right, and its bytes.
-ghost use Rattle.std.specs.Prelude.{IfSome, ◌<◌, ◌≤◌, ◌+◌, ◌*◌, ◌∷◌, [], ◌≡◌, length, drop};
+ghost use Rattle.std.specs.Prelude.{IfSome, ◌<◌, ◌≤◌, ◌+◌, ◌*◌, ◌∷◌, [], ◌≡◌, length, drop, Ok, Some};
 ghost use Rattle.std.proofs.lemmas.List.Edits.{sets};
-ghost use Rattle.std.specs.Prelude.{Ok};
-ghost use Rattle.std.specs.Prelude.{Some};
 ghost use Rattle.fields.specs.Words.{word};
 ghost use Rattle.writing.specs.Binary.{functype};
 ghost use Rattle.writing.specs.Row.{measured_row};

@@ -1,8 +1,6 @@
 // resource: a representation and perhaps a destructor.
-ghost use Rattle.std.specs.Prelude.{IfSome, ℕ, ◌<◌, ◌≤◌, ◌+◌, List, ◌∷◌, ◌≡◌, length};
+ghost use Rattle.std.specs.Prelude.{IfSome, ℕ, ◌<◌, ◌≤◌, ◌+◌, List, ◌∷◌, ◌≡◌, length, Ok, Some};
 ghost use Rattle.std.proofs.lemmas.List.Edits.{sets};
-ghost use Rattle.std.specs.Prelude.{Ok};
-ghost use Rattle.std.specs.Prelude.{Some};
 ghost use Rattle.fields.specs.Words.{word};
 ghost use Rattle.writing.specs.Binary.{representation, destructor};
 ghost use Rattle.writing.specs.Row.{measured_row};

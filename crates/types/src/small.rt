@@ -1,10 +1,8 @@
 // Kinds without names and counts, but for resource, in straight code: how many bytes a row makes, if all of it is seen
 // to be right, and its bytes. Kinds with the same fields share both.
-ghost use Rattle.std.specs.Prelude.{IfSome, ℕ, ◌<◌, ◌≤◌, ◌+◌, List, ◌∷◌, [], ◌++◌, ◌≡◌, length};
+ghost use Rattle.std.specs.Prelude.{IfSome, ℕ, ◌<◌, ◌≤◌, ◌+◌, List, ◌∷◌, [], ◌++◌, ◌≡◌, length, Ok, Some};
 ghost use Rattle.std.proofs.lemmas.List.Edits.{sets};
 ghost use Rattle.numbers.specs.Leb.{unsigned};
-ghost use Rattle.std.specs.Prelude.{Ok};
-ghost use Rattle.std.specs.Prelude.{Some};
 ghost use Rattle.fields.specs.Words.{word};
 ghost use Rattle.writing.specs.Binary.{primvaltype, valtype, optional};
 ghost use Rattle.writing.specs.Row.{measured_row};

@@ -1,7 +1,6 @@
 // Straight code by kind: an arm a kind, with the component binary document's names. Kinds are numbers, as in the rows that C hands over.
-ghost use Rattle.std.specs.Prelude.{IfSome, ◌<◌, ◌≡◌, length};
+ghost use Rattle.std.specs.Prelude.{IfSome, ◌<◌, ◌≡◌, length, Ok};
 ghost use Rattle.std.proofs.lemmas.List.Edits.{sets};
-ghost use Rattle.std.specs.Prelude.{Ok};
 ghost use Rattle.fields.specs.Words.{word};
 ghost use Rattle.writing.specs.Row.{measured_row, row_bytes};
 ghost use Rattle.types.specs.Write.{shape_of};
@@ -104,7 +103,8 @@ pub fn put_row(row: &[u32], pool: &[u8], out: &mut [u8], to: usize)
     }
 }
 
-// A row of a kind without names and counts, both passes in the kind's own arm, which is faster than asking for the kind twice; its size, if it was done.
+// A row of a kind without names and counts; its size, or none where nothing was done. Both passes stand in the kind's own arm, which is
+// faster than asking for the kind twice.
 pub fn write_small(row: &[u32], pool: &[u8], out: &mut [u8], at: usize) -> Option<usize>
     ensures { Tried (shape_of (word row.now 0)) row.now pool.now out.old at result out.new }
 {

@@ -9,7 +9,7 @@ use lib.Dec.{eqb, ltb}
 use lib.ListN.{length}
 use Rattle.fields.specs.declared.Refusal.TheVariants as refusal
 use Rattle.fields.specs.Leaf.{Leaf}
-use Rattle.fields.specs.Leaf.{Fine, Bad}
+use Rattle.fields.specs.Leaf.{Fine}
 use Rattle.fields.specs.Answer.{Answer}
 use Rattle.fields.specs.Answer.{Refused}
 use Rattle.fields.specs.declared.Shape.{Shape}

@@ -1,6 +1,6 @@
 -- Elements of two fields in the loops over a count: an element that is seen, and one that is put, its first field before its second.
-use Rattle.std.specs.Prelude.{Some, None, IfSome, Option}
-use Prim.Native.Nat.{ℕ, ◌+◌, ◌-◌, ◌≤◌, ◌<◌}
+use Rattle.std.specs.Prelude.{Some}
+use Prim.Native.Nat.{ℕ, suc, ◌+◌, ◌≤◌, ◌<◌}
 use native.Mathlib.Omega.{arith}
 use mathlib.Core.Path.{◌≡◌, refl, sym, ap, ◌∙◌, subst}
 use mathlib.Core.List.{List, [], ◌∷◌, ◌++◌, append-nil}
@@ -55,17 +55,17 @@ module _ (f g : Field) (pool row : List ℕ) (at : ℕ) {p q : ℕ} (a : Known p
 
 -- two fields are seen, of which an element has the bytes
 module _ (f g : Field) (pool : List ℕ) {element : List ℕ → List ℕ} (same : (ws : List ℕ) → element ws ≡ strings pool (f ∷ g ∷ []) ws) {most : ℕ}
-    {row : List ℕ} {from n base due at made : ℕ} where
-  pub known_next : Going pool (f ∷ g ∷ []) element most row from n base due at made → 0 < due
+    {row : List ℕ} {from n base due m at made : ℕ} where
+  pub known_next : Going pool (f ∷ g ∷ []) element most row from n base due at made → due ≡ suc m
       → {p q one at' : ℕ} → Known pool f (drop at row) p → Known pool g (drop (at + wide f) row) q → one ≡ p + q → one ≤ most
-      → at' ≡ at + widths (f ∷ g ∷ []) → Going pool (f ∷ g ∷ []) element most row from n base (due - 1) at' (made + one)
+      → at' ≡ at + widths (f ∷ g ∷ []) → Going pool (f ∷ g ∷ []) element most row from n base m at' (made + one)
   known_next k h a b e few ea =
       going_next k h (two_right f g pool row at a b) (e ∙ two_size f g pool row at a b ∙ ap length (sym (same (drop at row)))) few ea
 
 -- a name of a small pool has few bytes
 pub name_at-small : (pool row : List ℕ) (at : ℕ) {one : ℕ} → length pool ≤ 65536
     → Some one ≡ right_size pool field.Name (word row at ∷ word row (at + 1) ∷ []) → one ≤ 65541
-name_at-small pool row at small e = subst (λ o. IfSome o (λ r. r ≤ 65541)) (sym e) (name_small pool (word row at) (word row (at + 1)) small)
+name_at-small pool row at small e = rw (sym e) at (name_small pool (word row at) (word row (at + 1)) small)
 
 pub name_at-known : (pool row : List ℕ) (at : ℕ) {one : ℕ} → Some one ≡ right_size pool field.Name (word row at ∷ word row (at + 1) ∷ [])
     → Known pool field.Name (drop at row) one

@@ -1,5 +1,5 @@
 -- Loops that count down: groups of fields that are seen, and their elements put one after the other; and what they put.
-use Prim.Native.Nat.{ℕ, zero, suc, ◌+◌, ◌-◌, ◌*◌, ◌≤◌, ◌<◌}
+use Prim.Native.Nat.{ℕ, zero, suc, ◌+◌, ◌*◌, ◌≤◌, ◌<◌}
 use native.Mathlib.Nat.{suc-mul}
 use native.Mathlib.Omega.{arith}
 use mathlib.Core.Path.{◌≡◌, refl, sym, ap, ◌∙◌, subst}
@@ -34,15 +34,12 @@ pub record Going (pool : List ℕ) (g : List Field) (element : List ℕ → List
   pub small : made + due * most ≤ base + n * most
   pub whole : (r : ℕ) → Groups pool g element due (drop at row) made r → Groups pool g element n (drop from row) base r
 
-pub going_start : (pool : List ℕ) (g : List Field) (element : List ℕ → List ℕ) (most : ℕ) (row : List ℕ) (from n base : ℕ)
-    → Going pool g element most row from n base n from base
-going_start pool g element most row from n base = record { place = refl; small = omega arith; whole = λ r h. h }
-
 module _ {pool : List ℕ} {g : List Field} {element : List ℕ → List ℕ} {most : ℕ} {row : List ℕ} {from n base : ℕ} where
-  going_on : (m : ℕ) {at made one at' : ℕ} → Going pool g element most row from n base (suc m) at made → Rights pool g (drop at row)
+  -- m are left when the next one is seen
+  pub going_next : {due m at made one at' : ℕ} → Going pool g element most row from n base due at made → due ≡ suc m → Rights pool g (drop at row)
       → one ≡ length (element (drop at row)) → one ≤ most → at' ≡ at + widths g → Going pool g element most row from n base m at' (made + one)
   unfolding repeated elements
-  going_on m {at} {made} {one} {at'} k right size few ea =
+  going_next {due} {m} {at} {made} {one} {at'} so e right size few ea =
       record {
         place = omega (arith, k.place, suc-mul m (widths g));
         small = omega (arith, k.small, suc-mul m most);
@@ -53,6 +50,9 @@ module _ {pool : List ℕ} {g : List Field} {element : List ℕ → List ℕ} {m
             });
       }
     where
+      k : Going pool g element most row from n base (suc m) at made
+      k = subst (λ d. Going pool g element most row from n base d at made) e so
+
       here : drop (widths g) (drop at row) ≡ drop at' row
       here = drop-drop (widths g) at row ∙ ap (λ k. drop k row) (sym ea)
 
@@ -65,13 +65,6 @@ module _ {pool : List ℕ} {g : List Field} {element : List ℕ → List ℕ} {m
             ap (λ l. length (elements m (widths g) element l)) here,
             length-append (element (drop at row)) (elements m (widths g) element (drop (widths g) (drop at row))),
           )
-
-  pub going_next : {due at made one at' : ℕ} → Going pool g element most row from n base due at made → 0 < due → Rights pool g (drop at row)
-      → one ≡ length (element (drop at row)) → one ≤ most → at' ≡ at + widths g
-      → Going pool g element most row from n base (due - 1) at' (made + one)
-  going_next {due} {at} {made} k h =
-      let p : due ≡ suc (due - 1) = omega arith in
-      going_on (due - 1) (subst (λ j. Going pool g element most row from n base j at made) p k)
 
   pub going_end : {at made : ℕ} (due : ℕ) → Going pool g element most row from n base due at made → due ≤ 0
       → Groups pool g element n (drop from row) base made
@@ -89,11 +82,12 @@ pub record Putting (pool : List ℕ) (g : List Field) (element : List ℕ → Li
   pub ends : to + length (elements due (widths g) element (drop at row)) ≡ base + length (elements n (widths g) element (drop from row))
   pub same : length new ≡ length old
 
-pub putting_start : (pool : List ℕ) (g : List Field) (element : List ℕ → List ℕ) (row : List ℕ) (from n : ℕ) (old : List ℕ) (base : ℕ)
-    → Rights pool (repeated n g) (drop from row) → Putting pool g element row from n old base n from base old
-putting_start pool g element row from n old base h = record { place = refl; right = h; whole = refl; ends = refl; same = refl }
-
 module _ {pool : List ℕ} {g : List Field} {element : List ℕ → List ℕ} {row : List ℕ} {from n : ℕ} {old : List ℕ} {base : ℕ} where
+  pub putting_start : {due : ℕ} → due ≡ n → Rights pool (repeated n g) (drop from row) → Putting pool g element row from n old base due from base old
+  putting_start e h =
+      subst (λ d. Putting pool g element row from n old base d from base old) (sym e)
+      (record { place = refl; right = h; whole = refl; ends = refl; same = refl })
+
   -- the next group is right, and its element has room
   pub putting_round : {at to : ℕ} {new : List ℕ} (due : ℕ) → Putting pool g element row from n old base due at to new → 0 < due
       → base + length (elements n (widths g) element (drop from row)) ≤ length old
@@ -110,11 +104,12 @@ module _ {pool : List ℕ} {g : List Field} {element : List ℕ → List ℕ} {r
     ),
   )
 
-  putting_on : (m : ℕ) {at to at' : ℕ} {new : List ℕ} → Putting pool g element row from n old base (suc m) at to new
+  -- m are left when it is put
+  pub putting_next : {due m at to at' : ℕ} {new : List ℕ} → Putting pool g element row from n old base due at to new → due ≡ suc m
       → {next : ℕ} {more : List ℕ} → Wrote new to (element (drop at row)) next more → at' ≡ at + widths g
       → Putting pool g element row from n old base m at' next more
   unfolding repeated elements
-  putting_on m {at} {to} {at'} {new} p {next} {more} w ea =
+  putting_next {due} {m} {at} {to} {at'} {new} so e {next} {more} w ea =
       record {
         place = omega (arith, p.place, suc-mul m (widths g));
         right = subst (λ l. Rights pool (repeated m g) l) here (rights-rest pool g (repeated m g) (drop at row) p.right);
@@ -123,6 +118,9 @@ module _ {pool : List ℕ} {g : List Field} {element : List ℕ → List ℕ} {r
         same = same_size w ∙ p.same;
       }
     where
+      p : Putting pool g element row from n old base (suc m) at to new
+      p = subst (λ d. Putting pool g element row from n old base d at to new) e so
+
       rest : List ℕ
       rest = elements m (widths g) element (drop (widths g) (drop at row))
 
@@ -131,13 +129,6 @@ module _ {pool : List ℕ} {g : List Field} {element : List ℕ → List ℕ} {r
 
       stores : sets more next rest ≡ sets new to (element (drop at row) ++ rest)
       stores = rw (w.content, w.place) (sets_append (element (drop at row)) rest new to)
-
-  pub putting_next : {due at to at' : ℕ} {new : List ℕ} → Putting pool g element row from n old base due at to new → 0 < due
-      → {next : ℕ} {more : List ℕ} → Wrote new to (element (drop at row)) next more → at' ≡ at + widths g
-      → Putting pool g element row from n old base (due - 1) at' next more
-  putting_next {due} {at} {to} {at'} {new} k h w ea =
-      let p : due ≡ suc (due - 1) = omega arith in
-      putting_on (due - 1) (subst (λ j. Putting pool g element row from n old base j at to new) p k) w ea
 
   pub putting_end : {at to : ℕ} {new : List ℕ} (due : ℕ) → Putting pool g element row from n old base due at to new → due ≤ 0
       → Wrote old base (elements n (widths g) element (drop from row)) to new

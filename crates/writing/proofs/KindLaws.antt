@@ -1,8 +1,6 @@
 -- Answers about the shape that a table has for a row's kind: as answers about the row, and that rows whose production begins with a byte have bytes.
-use Rattle.std.specs.Prelude.{Ok}
-use Rattle.std.specs.Prelude.{None}
-use Rattle.std.specs.Prelude.{Some}
-use Rattle.std.specs.Prelude.{Option}
+use Rattle.std.specs.Prelude.{Option, None, Some, IfSome, Ok}
+use Rattle.std.proofs.lemmas.Option.{IfSome_then}
 use Prim.Native.Nat.{ℕ, ◌<◌}
 use native.Mathlib.Omega.{arith}
 use mathlib.Core.Path.{◌≡◌, sym, ap, ◌∙◌, subst}
@@ -33,6 +31,10 @@ module _ (ls : List Line) {i j k : ℕ} {found : Option Shape} (e : shape_in ls 
 
   pub measured_as : (row pool : List ℕ) {r : ℕ} → measured_row found row pool ≡ Ok r → measured_row (shape_in ls j) row pool ≡ Ok r
   measured_as row pool m = ap (λ s. measured_row s row pool) as_kind ∙ m
+
+  pub sized_as : (row pool : List ℕ) (o : Option ℕ) → IfSome o (λ r. measured_row found row pool ≡ Ok r)
+      → IfSome o (λ r. measured_row (shape_in ls j) row pool ≡ Ok r)
+  sized_as row pool o s = IfSome_then o s (λ r m. measured_as row pool m)
 
   pub fits_as : {row pool : List ℕ} {to room : ℕ} → Fits (shape_in ls j) row pool to room → Fits found row pool to room
   fits_as {row} {pool} {to} {room} t = subst (λ s. Fits s row pool to room) as_kind t

@@ -1,5 +1,5 @@
 -- What the leaves of straight code come to: the room tests, the size of a V and of a name, and a name stored as its two parts.
-use Rattle.std.specs.Prelude.{Some, None, IfSome, Option}
+use Rattle.std.specs.Prelude.{Some, None}
 use Rattle.std.specs.Prelude.{Ok}
 use Prim.Native.Nat.{ℕ, ◌+◌, ◌-◌, ◌≤◌, ◌<◌}
 use native.Mathlib.Omega.{arith}

@@ -8,7 +8,7 @@ use mathlib.Core.List.{List, ◌++◌}
 use lib.ListN.{drop}
 use Rattle.fields.specs.declared.Field.{Field}
 use Rattle.fields.specs.Leaf.{Leaf}
-use Rattle.fields.specs.Leaf.{Fine, Bad}
+use Rattle.fields.specs.Leaf.{Fine}
 use Rattle.fields.specs.declared.Shape.{Shape}
 use Rattle.fields.specs.Words.{word}
 use Rattle.writing.specs.Judge.{judge}

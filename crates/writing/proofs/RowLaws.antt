@@ -20,7 +20,7 @@ use Rattle.fields.specs.Answer.{Refused}
 use Rattle.fields.specs.declared.Field.{Field}
 use Rattle.fields.specs.declared.Field.TheVariants as field
 use Rattle.fields.specs.Flaw.{Flaw}
-use Rattle.fields.specs.Flaw.{Right, Wrong}
+use Rattle.fields.specs.Flaw.{Right}
 use Rattle.fields.specs.Leaf.{Fine}
 use Rattle.fields.specs.declared.Refusal.{Refusal}
 use Rattle.fields.specs.declared.Refusal.TheVariants.{Room}

@@ -7,9 +7,9 @@ use mathlib.Core.List.{List, [], ◌∷◌, ◌++◌}
 use lib.ListN.{length, drop, length-append}
 use Rattle.fields.specs.declared.Field.{Field}
 use Rattle.fields.specs.Flaw.{Flaw}
-use Rattle.fields.specs.Flaw.{Right, Wrong}
+use Rattle.fields.specs.Flaw.{Right}
 use Rattle.fields.specs.Leaf.{Leaf}
-use Rattle.fields.specs.Leaf.{Fine, Bad}
+use Rattle.fields.specs.Leaf.{Fine}
 use Rattle.fields.specs.Words.{word, wide}
 use Rattle.writing.specs.Binary.{bytes}
 use Rattle.writing.specs.Judge.{flaw, unless, judge}

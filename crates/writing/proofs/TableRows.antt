@@ -14,7 +14,7 @@ use Rattle.numbers.specs.Bytes.{Bytes}
 use Rattle.fields.specs.declared.Field.{Field}
 use Rattle.fields.specs.declared.Field.TheVariants as field
 use Rattle.fields.specs.Flaw.{Flaw}
-use Rattle.fields.specs.Flaw.{Right, Wrong}
+use Rattle.fields.specs.Flaw.{Right}
 use Rattle.fields.specs.Leaf.{Fine}
 use Rattle.fields.specs.declared.Shape.{Shape}
 use Rattle.fields.specs.Words.{word, Words, wide}

@@ -1,14 +1,11 @@
 -- Which words of a field are right, and the first that is not.
-use Rattle.std.specs.Prelude.{Err}
-use Rattle.std.specs.Prelude.{ℕ, ◌+◌, cond, List, eqb, ltb, leb, length}
+use Rattle.std.specs.Prelude.{Err, ℕ, ◌+◌, cond, List, eqb, ltb, leb, length}
 use Rattle.numbers.specs.Text.{text, stop}
 use Rattle.fields.specs.declared.Field.{Field}
 use Rattle.fields.specs.declared.Field.TheVariants as field
 use Rattle.fields.specs.declared.Refusal.TheVariants.{Tag, Range, Text}
-use Rattle.fields.specs.Flaw.{Flaw}
-use Rattle.fields.specs.Flaw.{Right, Wrong}
-use Rattle.fields.specs.Leaf.{Leaf}
-use Rattle.fields.specs.Leaf.{Fine, Bad}
+use Rattle.fields.specs.Flaw.{Flaw, Right, Wrong}
+use Rattle.fields.specs.Leaf.{Leaf, Fine, Bad}
 use Rattle.fields.specs.Answers.{offset_of}
 use Rattle.fields.specs.Words.{word, chars, indexed, wide}
 use Rattle.writing.specs.Binary.{bytes}

@@ -1,12 +1,8 @@
 -- A row whose first word is its kind: LIMIT, then an empty row, then the kind, then what its shape says.
-use Rattle.std.specs.Prelude.{None}
-use Rattle.std.specs.Prelude.{Some}
+use Rattle.std.specs.Prelude.{None, Some, Option, cond, List, [], ℕ, eqb, ltb, length}
 use Rattle.fields.specs.declared.Shape.{Shape}
-use Rattle.std.specs.Prelude.{Option}
-use Rattle.std.specs.Prelude.{cond, List, [], ℕ, eqb, ltb, length}
 use Rattle.fields.specs.declared.Refusal.TheVariants as refusal
-use Rattle.fields.specs.Answer.{Answer}
-use Rattle.fields.specs.Answer.{Refused}
+use Rattle.fields.specs.Answer.{Answer, Refused}
 use Rattle.fields.specs.Answers.{Left}
 use Rattle.writing.specs.Write.{measured, written, stored}
 use Rattle.fields.specs.Limits.{row_words, pool_bytes}

@@ -1,13 +1,10 @@
 -- Writing a row of a shape: what is answered, and what the buffer then holds.
-use Rattle.std.specs.Prelude.{Err, Ok}
-use Rattle.std.specs.Prelude.{cond, List, ℕ, ◌+◌, eqb, ltb, leb, length, drop}
+use Rattle.std.specs.Prelude.{Err, Ok, cond, List, ℕ, ◌+◌, eqb, ltb, leb, length, drop}
 use Rattle.std.proofs.lemmas.List.Edits.{sets}
 use Rattle.fields.specs.declared.Field.{Field}
 use Rattle.fields.specs.declared.Refusal.TheVariants as refusal
 use Rattle.fields.specs.Leaf.{Leaf}
-use Rattle.fields.specs.Leaf.{Fine, Bad}
-use Rattle.fields.specs.Answer.{Answer}
-use Rattle.fields.specs.Answer.{Refused}
+use Rattle.fields.specs.Answer.{Answer, Refused}
 use Rattle.fields.specs.declared.Shape.{Shape}
 use Rattle.writing.specs.Binary.{bytes}
 use Rattle.writing.specs.Judge.{judge}

@@ -47,7 +47,7 @@ pub fn value_size(tag: u32, x: u32) -> Option<usize>
     None
 }
 
-// How many bytes a name has, 0 where it does not end within the pool or is not UTF-8.
+// How many bytes a name has, if it ends within the pool and is UTF-8.
 pub fn name_size(pool: &[u8], start: u32, size: u32) -> Option<usize>
     ensures { result ≡ right_size pool.now field.Name (start ∷ size ∷ []) }
 {

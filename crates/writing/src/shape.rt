@@ -6,7 +6,7 @@ ghost use Rattle.fields.specs.Limits.{row_words, pool_bytes};
 
 use crate::judge::{wide_of, word_at};
 use crate::walk::judge_shape;
-use fields::{Answer, Fault, POOL_BYTES, ROW_WORDS, Refusal, Shape, Span};
+use fields::{Answer, Fault, POOL_BYTES, ROW_WORDS, Refusal, Shape};
 
 fn width_of(s: Shape, row: &[u32], start: usize) -> usize
     requires { start ≤ row_words }

@@ -87,13 +87,11 @@ fn judge_groups(
     let two = s.two;
     let mut at = from;
     let mut made = base;
-    let mut i: usize = 0;
-    while i < n {
+    for i in 0..n {
         let first = judge_one(one, pool, row, at, made)?;
         let second = judge_one(two, pool, row, first.took, first.made)?;
         at = second.took;
         made = second.made;
-        i += 1;
     }
     Ok(Span { took: at, made })
 }

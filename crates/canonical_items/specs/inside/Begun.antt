@@ -1,6 +1,5 @@
 -- The first byte of a canonical, and the byte 00 that some have behind it: what stands from a place on.
-use Rattle.std.specs.Prelude.{Option, Some, None}
-use Rattle.std.specs.Prelude.{Bool, false, cond, ℕ, List, ◌∷◌, ◌≡◌, eqb, leb, length, drop}
+use Rattle.std.specs.Prelude.{Option, Some, None, Bool, false, cond, ℕ, List, ◌∷◌, ◌≡◌, eqb, leb, length, drop}
 use Rattle.fields.specs.declared.Field.{Field}
 use Rattle.fields.specs.declared.Field.TheVariants as field
 use Rattle.fields.specs.inside.Run.{along, makes}

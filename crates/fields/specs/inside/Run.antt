@@ -1,9 +1,7 @@
 -- A walk over a list of fields, as a loop makes it.
-use Rattle.std.specs.Prelude.{Err, Ok}
-use Rattle.std.specs.Prelude.{List, [], ◌∷◌, ◌++◌, ℕ, ◌+◌, ◌≤◌, drop}
+use Rattle.std.specs.Prelude.{Err, Ok, List, [], ◌∷◌, ◌++◌, ℕ, ◌+◌, ◌≤◌, drop}
 use Rattle.fields.specs.declared.Field.{Field}
-use Rattle.fields.specs.Leaf.{Leaf}
-use Rattle.fields.specs.Leaf.{Fine, Bad}
+use Rattle.fields.specs.Leaf.{Leaf, Fine, Bad}
 use Rattle.fields.specs.Walk.{next, took}
 
 -- the fields from `at` on, with `made` elements made so far

@@ -5,7 +5,8 @@ use Rattle.std.specs.Prelude.{Some}
 use Rattle.fields.specs.Answers.{left_row}
 use Rattle.reading.specs.Read.{scanned_item, refusal_of}
 use Rattle.instances.specs.Write.{shape_of}
-use Rattle.instance_items.specs.ReadInstance.{kind_of, some_kind}
+use Rattle.instance_items.specs.ReadInstance.{kind_of}
+use Rattle.instance_items.specs.inside.Kind.{some_kind}
 use Rattle.instance_items.proofs.CallLaws.{own_shape, own_begins, call_limits, read_some, read_none, read_outside, own_call, own_unknown}
 use Rattle.instance_items.proofs.read_instance.Goals as goal
 use Rattle.instance_items.proofs.read_instance.Goals.{In-Some, then-is_within+in_default-by_kind, else-is_within}

@@ -1,6 +1,5 @@
 -- The groups of each kind of instance, as straight code tells them apart.
-use Rattle.std.specs.Prelude.{Option, Some, None, option_map}
-use Rattle.std.specs.Prelude.{ℕ, ◌+◌, cond, List, [], ◌∷◌, ◌≡◌, eqb, drop}
+use Rattle.std.specs.Prelude.{Option, Some, None, option_map, ℕ, ◌+◌, cond, List, [], ◌∷◌, ◌≡◌, eqb, drop}
 use Rattle.numbers.specs.declared.leb.Number.{Number}
 use Rattle.numbers.specs.Leb.{take_unsigned}
 use Rattle.numbers.specs.Seen.{seen}

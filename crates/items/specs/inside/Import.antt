@@ -1,12 +1,10 @@
 -- What straight code says of the fields of an import that it reads once: where each ends, and its words.
-use Rattle.std.specs.Prelude.{Err, Ok, Option, Some, None, IsSomeAnd, option_map}
-use Rattle.std.specs.Prelude.{ℕ, ◌+◌, ◌<◌, List, ◌∷◌, ◌++◌, ◌≡◌, drop}
+use Rattle.std.specs.Prelude.{Err, Ok, Option, Some, None, IsSomeAnd, option_map, ℕ, ◌+◌, ◌<◌, List, ◌∷◌, ◌++◌, ◌≡◌, drop}
 use Rattle.numbers.specs.declared.leb.Number.{Number}
 use Rattle.numbers.specs.Leb.{take_unsigned}
 use Rattle.numbers.specs.Seen.{seen}
 use Rattle.fields.specs.declared.Field.TheVariants as field
-use Rattle.fields.specs.Leaf.{Leaf}
-use Rattle.fields.specs.Leaf.{Fine}
+use Rattle.fields.specs.Leaf.{Leaf, Fine}
 use Rattle.fields.specs.Words.{word}
 use Rattle.reading.specs.Fill.{fill, fill_extern, fill_slot}
 use Rattle.reading.specs.Scan.{scan, scan_extern, slot_scan, end_scan, onward}

@@ -1,6 +1,5 @@
 -- What straight code says of an item that it reads once: where it ends, and its words.
-use Rattle.std.specs.Prelude.{Option, Some, None, Err, Ok, IsSomeAnd}
-use Rattle.std.specs.Prelude.{cond, ℕ, ◌-◌, ◌<◌, List, [], ◌∷◌, ◌≡◌, leb, length, take}
+use Rattle.std.specs.Prelude.{Option, Some, None, Err, Ok, IsSomeAnd, cond, ℕ, ◌-◌, ◌<◌, List, [], ◌∷◌, ◌≡◌, leb, length, take}
 use Rattle.std.proofs.lemmas.List.Edits.{sets}
 use Rattle.fields.specs.Leaf.{Leaf}
 use Rattle.reading.specs.inside.Try as tried

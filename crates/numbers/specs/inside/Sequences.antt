@@ -1,7 +1,5 @@
 -- A byte sequence within a name, for the private functions of `text`.
-use Rattle.std.specs.Prelude.{Ok}
-use Rattle.std.specs.Prelude.{Err}
-use Rattle.std.specs.Prelude.{◌≡◌, ℕ, ◌+◌, ◌≤◌, Bool, false, ◌&&◌, List, [], length, drop, nat_lt, slice_index}
+use Rattle.std.specs.Prelude.{Ok, Err, ◌≡◌, ℕ, ◌+◌, ◌≤◌, Bool, false, ◌&&◌, List, [], length, drop, nat_lt, slice_index}
 use Rattle.numbers.specs.Text.{Range, ◌to◌, among, rest, goes}
 use Rattle.numbers.specs.inside.Sequence.{Sequence}
 

@@ -1,6 +1,5 @@
 -- An item has few words.
-use Rattle.std.specs.Prelude.{Err, Ok}
-use Rattle.std.specs.Prelude.{◌≤◌}
+use Rattle.std.specs.Prelude.{Err, Ok, ◌≤◌}
 use Rattle.fields.specs.Read.{Read}
 use Rattle.fields.specs.Limits.{row_words}
 

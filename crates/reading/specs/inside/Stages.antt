@@ -1,6 +1,5 @@
 -- What stands behind the opening of a counted item, and where a field ends.
-use Rattle.std.specs.Prelude.{Err, Ok}
-use Rattle.std.specs.Prelude.{ℕ, ◌≤◌, List, drop}
+use Rattle.std.specs.Prelude.{Err, Ok, ℕ, ◌≤◌, List, drop}
 use Rattle.fields.specs.Leaf.{Leaf}
 use Rattle.fields.specs.declared.Shape.{Shape}
 use Rattle.reading.specs.Fill.{index, fill}

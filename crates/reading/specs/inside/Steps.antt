@@ -1,6 +1,5 @@
 -- What the steps of straight reading say of each other: a field behind a byte, and fields after fields.
-use Rattle.std.specs.Prelude.{Err, Ok, Option, Some, None}
-use Rattle.std.specs.Prelude.{ℕ, ◌+◌, Bool, false, cond, List, eqb, ltb, leb, drop}
+use Rattle.std.specs.Prelude.{Err, Ok, Option, Some, None, ℕ, ◌+◌, Bool, false, cond, List, eqb, ltb, leb, drop}
 use Rattle.fields.specs.declared.Field.{Field}
 use Rattle.fields.specs.declared.Site.TheVariants.{Primitive}
 use Rattle.fields.specs.Grades.{grade_of}

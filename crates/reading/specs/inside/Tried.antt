@@ -1,15 +1,10 @@
 -- What a straight reader leaves: an item whole in the row; or, where there is none that has room, the row as it was.
-use Rattle.std.specs.Prelude.{None}
-use Rattle.std.specs.Prelude.{Some}
+use Rattle.std.specs.Prelude.{None, Some, Option, Err, Ok, ℕ, cond, List, length}
 use Rattle.fields.specs.declared.Shape.{Shape}
-use Rattle.std.specs.Prelude.{Option}
-use Rattle.std.specs.Prelude.{Err, Ok}
-use Rattle.std.specs.Prelude.{ℕ, cond, List, length}
 use Rattle.std.proofs.lemmas.List.Edits.{sets}
 use Rattle.fields.specs.Leaf.{Leaf}
 use Rattle.reading.specs.Read.{scanned, filled}
-use Rattle.reading.specs.inside.Try.{Tried}
-use Rattle.reading.specs.inside.Try.{Item}
+use Rattle.reading.specs.inside.Try.{Tried, Item}
 use Rattle.reading.specs.Seen.{roomy}
 
 pub record LeftTried : Type 0 where

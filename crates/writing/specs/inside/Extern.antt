@@ -1,8 +1,6 @@
 -- What straight code says of an extern name.
-use Rattle.std.specs.Prelude.{Err}
-use Rattle.std.specs.Prelude.{ℕ, ◌+◌, ◌≤◌, ◌≡◌, Bool, true, false, List, length}
-use Rattle.fields.specs.Flaw.{Flaw}
-use Rattle.fields.specs.Flaw.{Right, Wrong}
+use Rattle.std.specs.Prelude.{Err, ℕ, ◌+◌, ◌≤◌, ◌≡◌, Bool, true, false, List, length}
+use Rattle.fields.specs.Flaw.{Flaw, Right}
 use Rattle.fields.specs.Words.{word}
 
 -- the words of the options together: 0 where none is present and no other word is used

@@ -1,10 +1,7 @@
 -- `options_size` meets its contract: the loop's invariant is `Going`: what is still to be seen makes the whole.
 use native.Mathlib.Omega.{arith}
-use Rattle.canonicals.proofs.ClassLaws.{going_start, going_place, going_next, going_end}
+use Rattle.canonicals.proofs.ClassLaws.{going_place, going_next, going_end}
 use Rattle.canonicals.proofs.straight.options_size.Goals as goal
-
-pub loop-init : goal.loop-init
-loop-init c = going_start c.args.row.now c.args.from c.args.n c.args.base _ (omega arith)
 
 pub offset_bounds-row-at : goal.offset_bounds-row-at
 offset_bounds-row-at c = omega (arith, going_place c.loop.invariant, c.requires.0, c.requires.1)
@@ -30,7 +27,7 @@ overflow_add-at-in-loop c = omega (arith, going_place c.loop.invariant, c.requir
 
 pub loop-preserved : goal.loop-preserved
 loop-preserved c =
-    going_next c.loop.invariant (omega (arith, c.loop-test.true)) c.in_ok-made.ensures.x_value c.in_ok-made.ensures.upper_bound _ (omega arith)
+    going_next c.loop.invariant (omega (arith, c.loop-test.true)) c.in_ok-made.ensures.x_value c.in_ok-made.ensures.upper_bound
 
 pub returns : goal.returns
 returns c = going_end c.loop.invariant (omega (arith, c.loop-test.false))

@@ -1,22 +1,11 @@
 -- `component::put_items` meets its contract: the loop's invariant is `Putting`: what is still to be put, put here, leaves what the whole leaves.
 use native.Mathlib.Omega.{arith}
-use Rattle.std.specs.Prelude.{[], ◌∷◌}
 use mathlib.Core.Path.{refl}
-use Rattle.fields.specs.declared.Field.TheVariants as field
 use Rattle.fields.specs.Words.{wide}
 use Rattle.fields.specs.Shape.{widths}
 use Rattle.writing.proofs.GroupLaws.{putting_next, putting_end}
-use Rattle.instances.specs.Table.{inlineexport}
-use Rattle.instances.proofs.InstanceLaws.{put_none, put_one, item_low, item_room, item_put}
+use Rattle.instances.proofs.InstanceLaws.{item_low, item_room, item_put}
 use Rattle.instances.proofs.component.put_items.Goals as goal
-
-pub loop-init : goal.loop-init
-loop-init c =
-    let args = c.args in
-    let pool = args.pool.now in (
-      put_none pool (field.ExternName ∷ field.SortIndex ∷ []) (inlineexport pool) args.row.now args.from args.n args.base args.out.now c.requires.rights,
-      omega arith,
-    )
 
 pub overflow_add-to : goal.overflow_add-to
 overflow_add-to c =
@@ -32,7 +21,7 @@ pub loop-preserved : goal.loop-preserved
 unfolding widths wide
 loop-preserved c =
     let w = item_put c.loop.invariant.0 (omega arith) c.requires.row_in_bounds c.put_extern.ensures c.stored_size-to.ensures c.put_sort-to.ensures in
-    (put_one c.loop.counter (putting_next c.loop.invariant.0 (omega arith) w refl), omega arith)
+    (putting_next c.loop.invariant.0 (omega arith) w refl, omega arith)
 
 pub shape_of-out : goal.shape_of-out
 shape_of-out c =

@@ -1,6 +1,7 @@
 -- `component::row_size` meets its contract: each arm has its kind's line of the table (`measured_as`).
 use Rattle.instances.specs.Table.{table}
-use Rattle.instances.proofs.InstanceLaws.{sized_as, kind_19, kind_21}
+use Rattle.writing.proofs.KindLaws.{sized_as}
+use Rattle.instances.proofs.InstanceLaws.{kind_19, kind_21}
 use Rattle.instances.proofs.component.row_size.Goals as goal
 
 pub returns-in-19 : goal.returns-in-19

@@ -1,23 +1,13 @@
 -- `core_rows::arguments_size` meets its contract: the loop's invariant is `Going` (what is still to be seen makes the whole) and its numbers.
 use native.Mathlib.Omega.{arith}
 use mathlib.Core.Path.{sym, ◌∙◌}
-use Rattle.std.specs.Prelude.{◌+◌, [], ◌∷◌}
+use Rattle.std.specs.Prelude.{◌+◌}
 use Rattle.numbers.proofs.LebLaws.{size_bounds}
-use Rattle.fields.specs.declared.Field.TheVariants as field
 use Rattle.fields.specs.Words.{word}
 use Rattle.writing.proofs.GroupLaws.{going_end}
-use Rattle.instances.specs.Table.{coreinstantiatearg}
 use Rattle.writing.proofs.ElementLaws.{name_at-small}
-use Rattle.instances.proofs.InstanceLaws.{seen_none, core_argument_next}
+use Rattle.instances.proofs.InstanceLaws.{core_argument_next}
 use Rattle.instances.proofs.core_rows.arguments_size.Goals as goal
-
-pub loop-init : goal.loop-init
-loop-init c =
-    let args = c.args in
-    let pool = args.pool.now in (
-      seen_none pool (field.Name ∷ field.Argument ∷ []) (coreinstantiatearg pool) args.row.now args.from args.n args.base 65547,
-      (omega arith, omega arith),
-    )
 
 pub overflow_add-two : goal.overflow_add-two
 overflow_add-two c =

@@ -1,21 +1,10 @@
 -- `core_rows::items_size` meets its contract: the loop's invariant is `Going` (what is still to be seen makes the whole) and its numbers.
 use native.Mathlib.Omega.{arith}
 use mathlib.Core.Path.{sym, ◌∙◌}
-use Rattle.std.specs.Prelude.{[], ◌∷◌}
-use Rattle.fields.specs.declared.Field.TheVariants as field
 use Rattle.writing.proofs.GroupLaws.{going_end}
-use Rattle.instances.specs.Table.{coreinlineexport}
 use Rattle.writing.proofs.ElementLaws.{name_at-small}
-use Rattle.instances.proofs.InstanceLaws.{seen_none, core_item_next}
+use Rattle.instances.proofs.InstanceLaws.{core_item_next}
 use Rattle.instances.proofs.core_rows.items_size.Goals as goal
-
-pub loop-init : goal.loop-init
-loop-init c =
-    let args = c.args in
-    let pool = args.pool.now in (
-      seen_none pool (field.Name ∷ field.CoreSortIndex ∷ []) (coreinlineexport pool) args.row.now args.from args.n args.base 65547,
-      (omega arith, omega arith),
-    )
 
 pub overflow_add-made : goal.overflow_add-made
 overflow_add-made c =

@@ -1,24 +1,14 @@
 -- `core_rows::put_arguments` meets its contract: the loop's invariant is `Putting`: what is still to be put, put here, leaves what the whole leaves.
 use native.Mathlib.Omega.{arith}
-use Rattle.std.specs.Prelude.{[], ◌∷◌}
 use mathlib.Core.Path.{refl}
 use Rattle.fields.specs.declared.Field.TheVariants as field
 use Rattle.fields.specs.Words.{word, wide}
 use Rattle.fields.specs.Shape.{widths}
 use Rattle.writing.specs.Binary.{argument}
 use Rattle.writing.proofs.GroupLaws.{putting_next, putting_end}
-use Rattle.instances.specs.Table.{coreinstantiatearg}
 use Rattle.writing.proofs.ElementLaws.{named_room, named_put}
-use Rattle.instances.proofs.InstanceLaws.{put_none, put_one, core_argument-wide, core_argument_words}
+use Rattle.instances.proofs.InstanceLaws.{core_argument-wide, core_argument_words}
 use Rattle.instances.proofs.core_rows.put_arguments.Goals as goal
-
-pub loop-init : goal.loop-init
-loop-init c =
-    let args = c.args in
-    let pool = args.pool.now in (
-      put_none pool (field.Name ∷ field.Argument ∷ []) (coreinstantiatearg pool) args.row.now args.from args.n args.base args.out.now c.requires.rights,
-      omega arith,
-    )
 
 pub overflow_add-to : goal.overflow_add-to
 overflow_add-to c =
@@ -43,7 +33,7 @@ loop-preserved c =
     let args = c.args in
     let w = named_put field.Argument (λ ws. argument (word ws 2)) core_argument-wide c.loop.invariant.0 (omega arith) c.requires.row_in_bounds
     c.put_name.ensures c.stored_size-to.ensures (core_argument_words args.row.now c.loop.at) c.put_lead-to.ensures in
-    (put_one c.loop.counter (putting_next c.loop.invariant.0 (omega arith) w refl), omega arith)
+    (putting_next c.loop.invariant.0 (omega arith) w refl, omega arith)
 
 pub shape_of-out : goal.shape_of-out
 shape_of-out c =

@@ -1,28 +1,19 @@
 -- `core_rows::put_items` meets its contract: the loop's invariant is `Putting`: what is still to be put, put here, leaves what the whole leaves.
 use native.Mathlib.Omega.{arith}
-use Rattle.std.specs.Prelude.{ℕ, List, [], ◌∷◌}
+use Rattle.std.specs.Prelude.{ℕ, List}
 use mathlib.Core.Path.{refl}
 use Rattle.fields.specs.declared.Field.TheVariants as field
 use Rattle.fields.specs.Words.{word, wide}
 use Rattle.fields.specs.Shape.{widths}
 use Rattle.writing.specs.Binary.{coresortidx}
 use Rattle.writing.proofs.GroupLaws.{putting_next, putting_end}
-use Rattle.instances.specs.Table.{coreinlineexport}
 use Rattle.writing.proofs.ElementLaws.{named_right, named_room, named_put}
-use Rattle.instances.proofs.InstanceLaws.{put_none, put_one, core_item-wide, core_item_words, core_item_low}
+use Rattle.instances.proofs.InstanceLaws.{core_item-wide, core_item_words, core_item_low}
 use Rattle.instances.proofs.core_rows.put_items.Goals as goal
 
 -- what stands behind a name
 abbrev second : List ℕ → List ℕ
 second ws = coresortidx (word ws 2) (word ws 3)
-
-pub loop-init : goal.loop-init
-loop-init c =
-    let args = c.args in
-    let pool = args.pool.now in (
-      put_none pool (field.Name ∷ field.CoreSortIndex ∷ []) (coreinlineexport pool) args.row.now args.from args.n args.base args.out.now c.requires.rights,
-      omega arith,
-    )
 
 pub overflow_add-to : goal.overflow_add-to
 overflow_add-to c =
@@ -54,7 +45,7 @@ loop-preserved c =
     let args = c.args in
     let w = named_put field.CoreSortIndex second core_item-wide c.loop.invariant.0 (omega arith) c.requires.row_in_bounds
     c.put_name.ensures c.stored_size-to.ensures (core_item_words args.row.now c.loop.at) c.put_lead-to.ensures in
-    (put_one c.loop.counter (putting_next c.loop.invariant.0 (omega arith) w refl), omega arith)
+    (putting_next c.loop.invariant.0 (omega arith) w refl, omega arith)
 
 pub shape_of-out : goal.shape_of-out
 shape_of-out c =

@@ -1,6 +1,7 @@
 -- `core_rows::row_size` meets its contract: each arm has its kind's line of the table (`measured_as`).
 use Rattle.instances.specs.Table.{core_table}
-use Rattle.instances.proofs.InstanceLaws.{sized_as, kind_18, kind_20}
+use Rattle.writing.proofs.KindLaws.{sized_as}
+use Rattle.instances.proofs.InstanceLaws.{kind_18, kind_20}
 use Rattle.instances.proofs.core_rows.row_size.Goals as goal
 
 pub returns-in-18 : goal.returns-in-18

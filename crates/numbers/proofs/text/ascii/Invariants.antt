@@ -1,5 +1,5 @@
--- `numbers::text::ascii` meets its contract. The loop's invariant: the bytes before `i` are below 128. `below_join` adds a chunk,
--- and `below_all` the last chunk, which may overlap.
+-- `numbers::text::ascii` meets its contract. The loop's invariant: the bytes before `i` are below 128; the last chunk
+-- may overlap the one before.
 use Rattle.std.proofs.Common.{◌-◌, ◌≤◌}
 use Rattle.numbers.specs.inside.Below.{Below}
 use Rattle.numbers.proofs.text.ascii.Given as goal

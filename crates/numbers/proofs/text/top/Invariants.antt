@@ -1,4 +1,4 @@
--- `numbers::text::top` meets its contract. The loop's invariant: no byte passed is above `high`. `below_next` is a round.
+-- `numbers::text::top` meets its contract. The loop's invariant: no byte passed is above `high`.
 use Rattle.std.proofs.Common.{◌+◌, ◌≤◌}
 use Rattle.numbers.specs.inside.Below.{Below}
 use Rattle.numbers.proofs.text.top.Given as goal

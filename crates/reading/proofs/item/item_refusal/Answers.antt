@@ -1,7 +1,8 @@
 -- `reading::item::item_refusal` meets its contract: its tests are those of `scanned_item`, in their order, and past them an item is what
 -- its shape says (`scanned-item`).
-use mathlib.Core.Path.{◌≡◌}
+use mathlib.Core.Path.{◌≡◌, ◌∙◌}
 use borrow.Author.Tests.{lt-ltb, le-ltb, eq-eqb}
+use Rattle.fields.proofs.OutcomeLaws.{passed-on}
 use Rattle.reading.specs.Read.{scanned_found, scanned_item}
 use Rattle.reading.proofs.ScannedLaws.{scanned-item}
 use Rattle.reading.proofs.item.item_refusal.Goals as goal
@@ -38,13 +39,14 @@ returns-then-input-eq0 c =
       eq-eqb _ _ c.if-input-eq0.true,
     )
 
-pub returns-in-Ok : goal.returns-in-Ok
-returns-in-Ok c =
-    rw (passed (goal.at.returns-in-Ok c).Else-input-eq0, c.in-Some.is, ← c.scan_shape.ensures, c.in-Ok.is)
+pub returns-in_ok-whole-in-Some : goal.returns-in_ok-whole-in-Some
+returns-in_ok-whole-in-Some c =
+    rw (passed (goal.at.returns-in_ok-whole-in-Some c).Else-input-eq0, c.in-Some.is, ← c.scan_shape.ensures, c.in_ok-whole-in-Some.was)
 
-pub returns-in-Err : goal.returns-in-Err
-returns-in-Err c =
-    rw (passed (goal.at.returns-in-Err c).Else-input-eq0, c.in-Some.is, ← c.scan_shape.ensures, c.in-Err.is)
+pub returns-in_err-whole-in-Some : goal.returns-in_err-whole-in-Some
+returns-in_err-whole-in-Some c =
+    passed-on _ c.from_residual.ensures
+    ∙ rw (passed (goal.at.returns-in_err-whole-in-Some c).Else-input-eq0, c.in-Some.is, ← c.scan_shape.ensures, c.in_err-whole-in-Some.was)
 
 pub returns-in-None : goal.returns-in-None
 returns-in-None c = rw (passed (goal.at.returns-in-None c).Else-input-eq0, c.in-None.is)

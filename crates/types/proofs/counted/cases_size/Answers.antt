@@ -1,12 +1,8 @@
 -- `cases_size` meets its contract: the loop's invariant is `Going` (what is still to be seen makes the whole) and its numbers.
-use Prim.Native.Nat.{◌+◌, ◌≤◌}
 use native.Mathlib.Omega.{arith}
 use mathlib.Core.Path.{sym, ◌∙◌}
-use Rattle.fields.specs.Words.{word}
 use Rattle.writing.proofs.ElementLaws.{name_at-small}
 use Rattle.writing.proofs.GroupLaws.{going_end}
-use Rattle.types.specs.inside.Optional.{OptionalKnown}
-use Rattle.types.proofs.SmallLaws.{found}
 use Rattle.types.proofs.CountedLaws.{case_next}
 use Rattle.types.proofs.counted.cases_size.Goals as goal
 
@@ -15,7 +11,7 @@ overflow_add-made c =
     omega (
       arith,
       name_at-small c.args.pool.now c.args.row.now c.loop.at c.requires.pool_len_bound.0 (sym c.in_ok-label.was ∙ c.name_size.ensures),
-      found (λ r. r ≤ 6) c.in_ok-made.was c.optional_size.ensures.upper_bound,
+      rw c.in_ok-made.was at c.optional_size.ensures.upper_bound,
     )
 
 pub overflow_add-made-in-loop : goal.overflow_add-made-in-loop
@@ -23,7 +19,7 @@ overflow_add-made-in-loop c =
     omega (
       arith,
       name_at-small c.args.pool.now c.args.row.now c.loop.at c.requires.pool_len_bound.0 (sym c.in_ok-label.was ∙ c.name_size.ensures),
-      found (λ r. r ≤ 6) c.in_ok-made.was c.optional_size.ensures.upper_bound,
+      rw c.in_ok-made.was at c.optional_size.ensures.upper_bound,
     )
 
 pub overflow_add-made-in-loop-2 : goal.overflow_add-made-in-loop-2
@@ -31,7 +27,7 @@ overflow_add-made-in-loop-2 c =
     omega (
       arith,
       name_at-small c.args.pool.now c.args.row.now c.loop.at c.requires.pool_len_bound.0 (sym c.in_ok-label.was ∙ c.name_size.ensures),
-      found (λ r. r ≤ 6) c.in_ok-made.was c.optional_size.ensures.upper_bound,
+      rw c.in_ok-made.was at c.optional_size.ensures.upper_bound,
     )
 
 pub loop-preserved : goal.loop-preserved
@@ -39,9 +35,8 @@ loop-preserved c =
     let row = c.args.row.now in
     let one = sym c.in_ok-label.was ∙ c.name_size.ensures in
     let few = name_at-small c.args.pool.now row c.loop.at c.requires.pool_len_bound.0 one in
-    let known = found (OptionalKnown 1 (word row (c.loop.at + 2)) (word row (c.loop.at + 3))) c.in_ok-made.was
-    c.optional_size.ensures.optional_known in
-    let short = found (λ r. r ≤ 6) c.in_ok-made.was c.optional_size.ensures.upper_bound in
+    let known = rw c.in_ok-made.was at c.optional_size.ensures.optional_known in
+    let short = rw c.in_ok-made.was at c.optional_size.ensures.upper_bound in
     (case_next c.loop.invariant.0 (omega arith) c.requires.pool_len_bound.0 one known short, (omega arith, omega arith))
 
 pub returns : goal.returns

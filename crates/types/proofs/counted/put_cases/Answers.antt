@@ -4,7 +4,7 @@ use mathlib.Core.Path.{refl}
 use Rattle.fields.specs.Words.{wide}
 use Rattle.fields.specs.Shape.{widths}
 use Rattle.writing.proofs.GroupLaws.{putting_next, putting_end}
-use Rattle.types.proofs.CountedLaws.{put_one, case_room, case_byte, case_put}
+use Rattle.types.proofs.CountedLaws.{case_room, case_byte, case_put}
 use Rattle.types.proofs.counted.put_cases.Goals as goal
 
 pub overflow_add-to : goal.overflow_add-to
@@ -31,7 +31,7 @@ pub loop-preserved : goal.loop-preserved
 unfolding widths wide
 loop-preserved c =
     let w = case_put c.loop.invariant.0 (omega arith) c.requires.row_in_bounds c.put_name.ensures c.stored_size-to.ensures c.put_optional-to.ensures in
-    (put_one c.loop.counter (putting_next c.loop.invariant.0 (omega arith) w refl), omega arith)
+    (putting_next c.loop.invariant.0 (omega arith) w refl, omega arith)
 
 pub shape_of-out : goal.shape_of-out
 shape_of-out c = c.loop.invariant.0.same

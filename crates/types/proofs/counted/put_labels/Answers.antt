@@ -4,7 +4,7 @@ use mathlib.Core.Path.{refl}
 use Rattle.fields.specs.Words.{wide}
 use Rattle.fields.specs.Shape.{widths}
 use Rattle.writing.proofs.GroupLaws.{putting_next, putting_end}
-use Rattle.types.proofs.CountedLaws.{put_one, label_put}
+use Rattle.types.proofs.CountedLaws.{label_put}
 use Rattle.types.proofs.counted.put_labels.Goals as goal
 
 pub overflow_add-to : goal.overflow_add-to
@@ -15,7 +15,7 @@ pub loop-preserved : goal.loop-preserved
 unfolding widths wide
 loop-preserved c =
     let w = (label_put c.loop.invariant.0 (omega arith) c.requires.row_in_bounds c.put_name.ensures c.stored_size-to.ensures).0 in
-    (put_one c.loop.counter (putting_next c.loop.invariant.0 (omega arith) w refl), omega arith)
+    (putting_next c.loop.invariant.0 (omega arith) w refl, omega arith)
 
 pub shape_of-out : goal.shape_of-out
 shape_of-out c = c.loop.invariant.0.same

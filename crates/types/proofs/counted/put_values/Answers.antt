@@ -1,24 +1,15 @@
 -- `put_values` meets its contract: the loop's invariant is `Putting`, by indices as nothing is needed of the words.
 use native.Mathlib.Omega.{arith}
-use native.Mathlib.Numerals.{unary_clauses}
 use mathlib.Core.Path.{refl}
-use mathlib.Core.List.{[], ◌∷◌}
 use lib.ListN.{drop}
-use Rattle.fields.specs.declared.Field.TheVariants as field
-use Rattle.fields.specs.Words.{word, wide}
-use Rattle.writing.specs.Binary.{valtype}
+use Rattle.fields.specs.Words.{wide}
 use Rattle.fields.specs.Shape.{widths}
 use Rattle.writing.proofs.GroupLaws.{putting_start, putting_next, putting_end}
-use Rattle.types.proofs.CountedLaws.{put_one, indices_right, value_put}
+use Rattle.types.proofs.CountedLaws.{indices_right, value_put}
 use Rattle.types.proofs.counted.put_values.Goals as goal
 
 pub loop-init : goal.loop-init
-loop-init c =
-    let args = c.args in
-    let right = indices_right args.n (drop args.from args.row.now) in (
-      simp unary_clauses (putting_start [] (field.Index ∷ field.Index ∷ []) (λ ws. valtype (word ws 0) (word ws 1)) args.row.now args.from args.n args.out.now args.base right),
-      omega arith,
-    )
+loop-init c = (putting_start (omega arith) (indices_right c.args.n (drop c.args.from c.args.row.now)), omega arith)
 
 pub overflow_add-to : goal.overflow_add-to
 overflow_add-to c =
@@ -28,7 +19,7 @@ pub loop-preserved : goal.loop-preserved
 unfolding widths wide
 loop-preserved c =
     let w = (value_put c.loop.invariant.0 (omega arith) c.requires.row_in_bounds c.put_value.ensures c.stored_size-to.ensures).0 in
-    (put_one c.loop.counter (putting_next c.loop.invariant.0 (omega arith) w refl), omega arith)
+    (putting_next c.loop.invariant.0 (omega arith) w refl, omega arith)
 
 pub shape_of-out : goal.shape_of-out
 shape_of-out c = c.loop.invariant.0.same

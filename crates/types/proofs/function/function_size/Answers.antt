@@ -1,12 +1,10 @@
 -- `function_size` meets its contract: the row is as long as its count says, and its result and its parameters were seen.
-use Prim.Native.Nat.{◌+◌, ◌*◌, ◌≤◌}
+use Prim.Native.Nat.{◌+◌, ◌*◌}
 use native.Mathlib.Omega.{arith}
 use lib.ListN.{get_or}
 use Rattle.std.proofs.lemmas.Option.{IfSome_then}
 use Rattle.numbers.proofs.LebLaws.{size_bounds}
 use Rattle.fields.specs.Words.{word}
-use Rattle.types.specs.inside.Optional.{OptionalKnown}
-use Rattle.types.proofs.SmallLaws.{found}
 use Rattle.types.proofs.FunctionLaws.{function_known}
 use Rattle.types.proofs.function.function_size.Goals as goal
 
@@ -19,21 +17,21 @@ overflow_add-unsigned_size-2 c =
       arith,
       c.unsigned_size.ensures,
       (size_bounds 128 (get_or c.args.row.now 2 0)).1,
-      found (λ r. r ≤ 6) c.in_ok-result.was c.optional_size.ensures.upper_bound,
+      rw c.in_ok-result.was at c.optional_size.ensures.upper_bound,
     )
 
 pub fields_size-requires-clause-n_in_bounds : goal.fields_size-requires-clause-n_in_bounds
 fields_size-requires-clause-n_in_bounds c =
     let size = (size_bounds 128 (get_or c.args.row.now 2 0)).1 in (
       omega (arith, c.if-row-last.false),
-      omega (arith, c.unsigned_size.ensures, size, found (λ r. r ≤ 6) c.in_ok-result.was c.optional_size.ensures.upper_bound),
+      omega (arith, c.unsigned_size.ensures, size, rw c.in_ok-result.was at c.optional_size.ensures.upper_bound),
     )
 
 pub returns : goal.returns
 returns c =
     let row = c.args.row.now in
     let last = 3 + word row 2 * 4 in
-    let result = found (OptionalKnown 2 (word row last) (word row (last + 1))) c.in_ok-result.was c.optional_size.ensures.optional_known in
+    let result = rw c.in_ok-result.was at c.optional_size.ensures.optional_known in
     IfSome_then c.fields_size.result c.fields_size.ensures
     (λ r. function_known row c.args.pool.now c.requires.0 c.requires.1
     (omega (arith, c.if-row-last.false)) (omega (arith, c.if-row-gt1.false))

@@ -1,12 +1,10 @@
 -- `optional_row_size` meets its contract: what it tests is what `optional_row` asks.
-use Rattle.fields.specs.Words.{word}
-use Rattle.types.specs.inside.Optional.{OptionalKnown}
-use Rattle.types.proofs.SmallLaws.{found, optional_row}
+use Rattle.types.proofs.SmallLaws.{optional_row}
 use Rattle.types.proofs.small.optional_row_size.Goals as goal
 
 pub returns : goal.returns
 returns c =
     let row = c.args.row.now in
     optional_row row
-    (found (OptionalKnown 1 (word row 1) (word row 2)) c.in_ok-optional_size.was c.optional_size.ensures.optional_known)
+    (rw c.in_ok-optional_size.was at c.optional_size.ensures.optional_known)
     c.if-row-ne3.false

@@ -2,13 +2,11 @@
 use mathlib.Core.Path.{sym, ap, ◌∙◌}
 use mathlib.Core.List.{[], ◌∷◌}
 use Rattle.writing.specs.Write.{measured}
-use Rattle.types.specs.inside.Optional.{OptionalKnown}
-use Rattle.types.proofs.SmallLaws.{found}
 use Rattle.types.proofs.StepLaws.{result_measured}
 use Rattle.types.proofs.steps.measure_result.Goals as goal
 
 pub returns-in-Some : goal.returns-in-Some
-returns-in-Some c = sym (result_measured (found (OptionalKnown 2 c.args.tag c.args.x) c.in-Some.is c.optional_size.ensures.optional_known))
+returns-in-Some c = sym (result_measured (rw c.in-Some.is at c.optional_size.ensures.optional_known))
 
 pub returns : goal.returns
 returns c =

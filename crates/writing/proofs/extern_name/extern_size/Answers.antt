@@ -1,16 +1,13 @@
 -- `extern_size`: without options the name alone is judged (`plain_size`); else whether it is right decides.
-use Rattle.std.specs.Prelude.{IfSome, ◌≤◌}
 use native.Mathlib.Omega.{arith}
-use Prim.Native.Nat.{◌+◌}
-use mathlib.Core.Path.{sym, subst, ◌∙◌}
+use mathlib.Core.Path.{sym, ◌∙◌}
 use Rattle.writing.proofs.ExternLaws.{name-most, plain_size, right_size_lem, wrong_size}
 use Rattle.writing.proofs.extern_name.extern_size.Goals as goal
 
 pub overflow_add-result : goal.overflow_add-result
 overflow_add-result c =
-    let most = subst (λ o. IfSome o (λ r. r ≤ 5 + c.word_at-then-is_bare.result)) (sym c.name_size.ensures ∙ c.in_ok-name_size.was)
-    (name-most c.args.pool.now c.word_at.result c.word_at-then-is_bare.result) in
-    omega arith
+    let most = name-most c.args.pool.now c.word_at.result c.word_at-then-is_bare.result in
+    omega (arith, rw (sym c.name_size.ensures ∙ c.in_ok-name_size.was) at most)
 
 pub returns-in_err-name_size : goal.returns-in_err-name_size
 returns-in_err-name_size c =

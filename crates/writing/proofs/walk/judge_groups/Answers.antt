@@ -1,5 +1,5 @@
 -- `writing::walk::judge_groups` meets its contract. The loop's invariant is `Groups`: the walk over the groups that are due, from here,
--- is the whole. The measure is how many are due.
+-- is the whole.
 use Prim.Native.Nat.{◌^◌}
 use native.Mathlib.Nat.{mul-le-mul_right}
 use native.Mathlib.Omega.{arith}
@@ -52,9 +52,6 @@ returns-in_err-second c =
     c.loop-i-test.true c.judge_one-in-loop-i.result
     (pair_fine (judge a.pool.now) a.row.now a.s.one a.s.two c.loop-i.at c.loop-i.made c.judge_one.result
     c.judge_one.ensures c.in_ok-first.was c.judge_one-in-loop-i.result c.judge_one-in-loop-i.ensures) _ _ c.in_err-second.was
-
-pub loop-i-smaller : goal.loop-i-smaller
-loop-i-smaller c = omega arith
 
 pub loop-i-preserved : goal.loop-i-preserved
 loop-i-preserved c =
