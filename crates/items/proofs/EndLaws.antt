@@ -34,7 +34,7 @@ pair_right : (g : ℕ) (f : Field) (bs : List ℕ) {v : Pair} → wide f ≡ 2 �
 pair_right g f bs {v} w e = let k = pair-some g f bs w v (sym e) in (k.0, k.2)
 
 -- the same of one lent the input from its place on
-step-some : (g : ℕ) (f : Field) (input : List ℕ) (at : ℕ) {v : Pair} → wide f ≡ 2
+pub step-some : (g : ℕ) (f : Field) (input : List ℕ) (at : ℕ) {v : Pair} → wide f ≡ 2
     → Some v ≡ pair g f (take (length input - at) (drop at input))
     → (scan 1 g f (drop at input) ≡ Fine v.took 2) × (v.took ≤ length input - at)
 step-some g f input at {v} w e =

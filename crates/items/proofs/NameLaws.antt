@@ -62,7 +62,7 @@ module _ (input : List ℕ) (at : ℕ) (r : Pair) (e : Some r ≡ pair 1 field.N
   fine_name = pair-some 1 field.Name (drop at input) refl r (sym e)
 
   -- it is right, and ends inside the input
-  string_right : (due : ℕ) → string_at input at due ≡ Fine (at + r.took) due
+  pub string_right : (due : ℕ) → string_at input at due ≡ Fine (at + r.took) due
   unfolding scan
   string_right due = ap (λ l. onward (past at l) (λ next m. Fine next due)) fine_name.0
 
@@ -70,7 +70,7 @@ module _ (input : List ℕ) (at : ℕ) (r : Pair) (e : Some r ≡ pair 1 field.N
   string_inside h = omega (arith, fine_name.2, length-drop at input)
 
   -- its words
-  string_words : fill_name 0 input at ≡ (at + r.a) ∷ r.b ∷ []
+  pub string_words : fill_name 0 input at ≡ (at + r.a) ∷ r.b ∷ []
   unfolding fill fill_name
   string_words =
       let s : ℕ = size_in (take_unsigned (drop at input)) in
@@ -85,7 +85,7 @@ module _ (input : List ℕ) (at : ℕ) (r : Pair) (e : Some r ≡ pair 1 field.N
       omega (arith, size_small (drop at input))
 
 -- where none is seen, it is not right
-string_wrong : (input : List ℕ) (at : ℕ) → None ≡ pair 1 field.Name (drop at input) → (due : ℕ) → Wrong (string_at input at due)
+pub string_wrong : (input : List ℕ) (at : ℕ) → None ≡ pair 1 field.Name (drop at input) → (due : ℕ) → Wrong (string_at input at due)
 unfolding scan
 string_wrong input at e due = go (scan_name (drop at input)) (pair_none 1 field.Name (drop at input) (sym e))
   where
@@ -266,7 +266,7 @@ module _ (n : Pair) (input : List ℕ) (at count : ℕ) where
             go (Err fault) ws t = impossible cc
 
   -- no option
-  options_none : count ≡ 0 → 0 < at → (k : ℕ) (none : Slot) → none ≡ no_slot k 0
+  pub options_none : count ≡ 0 → 0 < at → (k : ℕ) (none : Slot) → none ≡ no_slot k 0
       → OptionsTold n input at count (Some (extern_is at n none none none))
   unfolding slot_scan fill_slot end_scan
   options_none z h k none e = simp (z, e) (h, refl, refl)

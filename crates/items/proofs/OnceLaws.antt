@@ -89,7 +89,7 @@ three-words (x ∷ y ∷ z ∷ []) e = refl
 three-words (x ∷ y ∷ z ∷ v ∷ ws) e = absurd (omega arith)
 
 -- a reference that is read is right, and these are its words, wherever it stands
-three-some : (g at : ℕ) (bs : List ℕ) (r : Three) → Some r ≡ three g bs
+pub three-some : (g at : ℕ) (bs : List ℕ) (r : Three) → Some r ≡ three g bs
     → (scan 1 g field.Reference bs ≡ Fine r.took 3) × (fill g field.Reference at bs ≡ r.a ∷ r.b ∷ r.c ∷ []) × (r.took ≤ length bs)
 unfolding three_of wide
 three-some g at bs r h = go (scan 1 g field.Reference bs) (λ t m. scan-takes g field.Reference bs t m tt) h

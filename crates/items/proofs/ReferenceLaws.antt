@@ -34,12 +34,12 @@ module _ (bs : List ℕ) where
   index_taken n e = let s = seen-some u32 bs n (sym e) in (s.0, s.2)
 
   -- it is scanned, and is the word
-  index_fine : (n : Number) → Some n ≡ seen (take_unsigned bs) → (scan_index 3 bs ≡ Fine n.took 3) × (index bs ≡ n.value)
+  pub index_fine : (n : Number) → Some n ≡ seen (take_unsigned bs) → (scan_index 3 bs ≡ Fine n.took 3) × (index bs ≡ n.value)
   unfolding scan_index
   index_fine n e = let t = (index_taken n e).0 in (simp t, simp t)
 
   -- where there is none, what it stands in is not right
-  index_none : None ≡ seen (take_unsigned bs) → (k : ℕ) (ws : List ℕ) → None ≡ three_of (past k (scan_index 3 bs)) ws
+  pub index_none : None ≡ seen (take_unsigned bs) → (k : ℕ) (ws : List ℕ) → None ≡ three_of (past k (scan_index 3 bs)) ws
   unfolding scan_index three_of
   index_none e k ws = go (take_unsigned bs) e
     where
@@ -60,7 +60,7 @@ module _ (sort k : ℕ) (bs : List ℕ) where
   indexed_none e = ap (option_map (indexed_is sort k)) e
 
   -- it is scanned behind k bytes, and these are its words
-  indexed_is_lem : indexed_three sort k bs ≡ three_of (past k (scan_index 3 (drop k bs))) (sort ∷ index (drop k bs) ∷ 0 ∷ [])
+  pub indexed_is_lem : indexed_three sort k bs ≡ three_of (past k (scan_index 3 (drop k bs))) (sort ∷ index (drop k bs) ∷ 0 ∷ [])
   unfolding scan_index three_of
   indexed_is_lem = go (take_unsigned (drop k bs))
     where

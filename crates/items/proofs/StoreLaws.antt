@@ -103,7 +103,7 @@ unfolding scan scan_either one_of
 rep_empty g bs h = simp (le-leb _ _ h)
 
 -- one that is right has one byte, which is there
-rep_byte_lem : (g : ℕ) (bs : List ℕ) {x : Number} → Some x ≡ one g field.Rep bs → (x.took ≡ 1) × (0 < length bs)
+pub rep_byte_lem : (g : ℕ) (bs : List ℕ) {x : Number} → Some x ≡ one g field.Rep bs → (x.took ≡ 1) × (0 < length bs)
 unfolding scan scan_either one_of
 rep_byte_lem g bs {x} h = go (leb (length bs) 0) refl (eqb (byte bs 0) 0x7f) (eqb (byte bs 0) 0x7e) (ltb g 1) h
   where

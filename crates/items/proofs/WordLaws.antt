@@ -78,7 +78,7 @@ pub pair_seen : {g : ℕ} {input : List ℕ} {f : Field} {at : ℕ} → Stands g
 pair_seen {g} {input} {f} {at} s =
     subst (λ (l : List ℕ). IsSome (pair g f l)) (sym (to_end input at)) (pair_fine g f (drop at input) s.t s.m s.is)
 
-paired : {g : ℕ} {input : List ℕ} {f : Field} {at : ℕ} {v : Pair} → Still f → wide f ≡ 2 → at ≤ length input
+pub paired : {g : ℕ} {input : List ℕ} {f : Field} {at : ℕ} {v : Pair} → Still f → wide f ≡ 2 → at ≤ length input
     → Some v ≡ pair g f (take (length input - at) (drop at input)) → Paired g input f at v
 paired {g} {input} {f} {at} {v} still w inside e =
     let bs = drop at input in

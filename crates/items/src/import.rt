@@ -148,7 +148,9 @@ fn no_slot(next: usize, due: u32) -> Slot
     }
 }
 
-// Option k at a place, with so many options still to come, if it is right: its byte and a string, or not there.
+// Option k at a place, with so many options still to come, if it is right: its byte and a string, or not there. It stands in its caller's
+// code, which would have to wait for an answer that goes through memory.
+#[inline(always)]
 fn slot_at(k: u8, input: &[u8], at: usize, due: u32) -> Option<Slot>
     requires { (length input.now ≤ input_bytes) × (0 < at) × (at ≤ length input.now) }
     ensures { SlotTold (slot_scan k input.now at due) (fill_slot k 0 input.now (Fine at due)) result }

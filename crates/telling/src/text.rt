@@ -1,5 +1,5 @@
 // Text, numbers and bytes on standard output.
-ghost use Rattle.std.specs.Prelude.{◌≡◌, ◌≤◌, length};
+ghost use Rattle.std.specs.Prelude.{◌≡◌, ◌*◌, ◌≤◌, length};
 
 const DIGITS: [u8; 16] = *b"0123456789abcdef";
 
@@ -47,22 +47,29 @@ fn digit(n: u8) -> u8 {
     DIGITS[usize::from(n % 16)]
 }
 
-// At most 512 bytes, as many as one text holds.
-fn say_some(rt: &HostRuntime, bytes: &[u8]) {
+// At most 512 bytes, as many as one text holds, in hexadecimal: how many.
+fn say_some(rt: &HostRuntime, bytes: &[u8]) -> usize
+    requires { 2 * length bytes.now ≤ 1024 }
+    ensures { result ≡ length bytes.now }
+{
     let mut text = [0u8; 1024];
+    let mut said = 0;
     for (place, byte) in text.chunks_exact_mut(2).zip(bytes) {
         place[0] = digit(*byte / 16);
         place[1] = digit(*byte);
+        said += 1;
     }
-    say(rt, numbers::part(&text, 0, 2 * bytes.len()));
+    say(rt, numbers::part(&text, 0, 2 * said));
+    said
 }
 
 // Bytes in hexadecimal, two digits each.
 pub fn say_bytes(rt: &HostRuntime, bytes: &[u8]) -> usize
     ensures { result ≡ length bytes.now }
 {
+    let mut said = 0;
     for part in bytes.chunks(512) {
-        say_some(rt, part);
+        said += say_some(rt, part);
     }
-    bytes.len()
+    said
 }

@@ -1,5 +1,8 @@
 // The lists on standard input. Every number has 4 bytes, big-endian.
 
+// The bytes of a case's numbers.
+const HEAD: usize = 40;
+
 // What is answered, in the list's numbers.
 #[derive(Clone, Copy, PartialEq, Eq)]
 pub struct Told {
@@ -64,6 +67,39 @@ impl TryFrom<u32> for Sort {
     }
 }
 
+impl TryFrom<[u32; 10]> for Case {
+    type Error = Broken;
+
+    fn try_from(numbers: [u32; 10]) -> Result<Case, Broken> {
+        let [
+            sort,
+            input,
+            grade,
+            body_room,
+            room,
+            number,
+            value,
+            also,
+            made,
+            body,
+        ] = numbers;
+        Ok(Case {
+            sort: Sort::try_from(sort)?,
+            input: input as usize,
+            grade,
+            body_room: body_room as usize,
+            room: room as usize,
+            told: Told {
+                number: number as usize,
+                value: value as usize,
+                also: also as usize,
+            },
+            made: made as usize,
+            body: body as usize,
+        })
+    }
+}
+
 // Reads so many bytes to the buffer's front.
 fn read_to(rt: &HostRuntime, buffer: &mut [u8], size: usize) -> Result<(), Broken> {
     if size <= buffer.len() && telling::read_full(rt, &mut buffer[..size]) == size {
@@ -73,28 +109,28 @@ fn read_to(rt: &HostRuntime, buffer: &mut [u8], size: usize) -> Result<(), Broke
     }
 }
 
-fn next_number(rt: &HostRuntime) -> Result<u32, Broken> {
-    let mut bytes = [0u8; 4];
-    read_to(rt, &mut bytes, 4)?;
-    Ok(u32::from_be_bytes(bytes))
-}
-
-fn next_size(rt: &HostRuntime) -> Result<usize, Broken> {
-    Ok(next_number(rt)? as usize)
+// The numbers that a head's bytes are, in the list's order.
+fn numbers_of<const N: usize>(head: &[u8]) -> [u32; N] {
+    let mut numbers = [0u32; N];
+    let (fours, _) = head.as_chunks::<4>();
+    for (number, bytes) in numbers.iter_mut().zip(fours) {
+        *number = u32::from_be_bytes(*bytes);
+    }
+    numbers
 }
 
 // The next list, whose title is read to the buffer's front; none where the input has ended.
 pub fn next_list(rt: &HostRuntime, title: &mut [u8]) -> Result<Option<Head>, Broken> {
-    let mut bytes = [0u8; 4];
-    match telling::read_full(rt, &mut bytes) {
+    let mut head = [0u8; 8];
+    match telling::read_full(rt, &mut head) {
         0 => Ok(None),
-        4 => {
-            let head = Head {
-                cases: u32::from_be_bytes(bytes) as usize,
-                title: next_size(rt)?,
-            };
-            read_to(rt, title, head.title)?;
-            Ok(Some(head))
+        8 => {
+            let [cases, size]: [u32; 2] = numbers_of(&head);
+            read_to(rt, title, size as usize)?;
+            Ok(Some(Head {
+                cases: cases as usize,
+                title: size as usize,
+            }))
         }
         _ => Err(Broken),
     }
@@ -102,21 +138,9 @@ pub fn next_list(rt: &HostRuntime, title: &mut [u8]) -> Result<Option<Head>, Bro
 
 // The next case; its input and what is made of it are read into the buffers. All its numbers are read before the first is judged.
 pub fn next_case(rt: &HostRuntime, input: &mut [u8], made: &mut [u8]) -> Result<Case, Broken> {
-    let sort = next_number(rt)?;
-    let case = Case {
-        input: next_size(rt)?,
-        grade: next_number(rt)?,
-        body_room: next_size(rt)?,
-        room: next_size(rt)?,
-        told: Told {
-            number: next_size(rt)?,
-            value: next_size(rt)?,
-            also: next_size(rt)?,
-        },
-        made: next_size(rt)?,
-        body: next_size(rt)?,
-        sort: Sort::try_from(sort)?,
-    };
+    let mut head = [0u8; HEAD];
+    read_to(rt, &mut head, HEAD)?;
+    let case = Case::try_from(numbers_of(&head))?;
     read_to(rt, input, case.input)?;
     read_to(rt, made, case.made)?;
     Ok(case)
