@@ -95,7 +95,8 @@ fn behind(v: Pair) -> Pair
     }
 }
 
-// An O: 00, or 01 and a V.
+// An O: 00, or 01 and a V. It stands in its callers' code, which would have to wait for an answer that goes through memory.
+#[inline(always)]
 pub fn optional(grade: u32, bs: &[u8]) -> Option<Pair>
     ensures { result ≡ pair grade field.Optional bs.now }
 {

@@ -49,7 +49,9 @@ fn is_known(family: u32) -> bool
     matches!(family, 2 | 5 | 7 | 8 | 10)
 }
 
-// The row written by the writer of its family; LIMIT where the family is no section's.
+// The row written by the writer of its family; LIMIT where the family is no section's. It stands in its callers' code, so that its
+// answer, of three words, need not go through memory.
+#[inline(always)]
 pub fn write_by(family: u32, row: &[u32], pool: &[u8], body: &mut [u8], at: usize) -> Answer
     ensures { left result body.new ≡ write_family family row.now pool.now body.old at }
 {

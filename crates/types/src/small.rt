@@ -45,6 +45,8 @@ pub fn value_row_size(row: &[u32]) -> Option<usize>
     Some(1 + value_size(row[1], row[2])?)
 }
 
+// In its callers' code, as the put of a row of this size costs little more than a call.
+#[inline(always)]
 pub fn put_value_row(lead: u8, row: &[u32], out: &mut [u8], to: usize)
     requires row_len { length row.now ≡ 3 }
     requires row_in_bounds { to + (1 + length (valtype (word row.now 1) (word row.now 2))) ≤ length out.old }
